@@ -1,0 +1,7 @@
+pub mod Table
+pub mod Rounds
+pub mod Parsed
+pub mod Chains
+pub mod Streams
+pub mod Pads
+pub mod Opens

@@ -1,0 +1,47 @@
+-- Laws of octet strings parsed into blocks of 16.
+-- Assumes nothing.
+use mathlib.Core.Path.{_≡_, refl, sym, ap, ap₂, _∙_}
+use mathlib.Core.List.{List, [], _∷_, _++_}
+use Prim.Native.Nat.{ℕ, suc, _+_, _-_, _*_, _/_, _≤_, _<_}
+use native.Mathlib.Nat.{add-assoc, add-zero}
+use native.Mathlib.Omega.{arith}
+use lib.ListN.{length, drop, length-drop, drop-of-length-le}
+use lib.Seq.{getD-drop, drop-drop}
+use Rattle.octets.specs.Lists.{at, tab}
+use Rattle.octets.proofs.Tabs.{tab-ext, getD-tab}
+use Rattle.cipher.specs.Blocks.{blockFrom, blockCount, blocks}
+
+pub block-at : (d : List ℕ) (i j : ℕ) → j < 16 → at (blockFrom d i) j ≡ at d (i + j)
+unfolding blockFrom
+block-at d i j h = getD-tab 16 (λ j. at d (i + j)) j 0 h
+
+pub block-drop : (d : List ℕ) (n i : ℕ) → blockFrom (drop n d) i ≡ blockFrom d (n + i)
+unfolding blockFrom
+block-drop d n i =
+    tab-ext 16 (λ j. at (drop n d) (i + j)) (λ j. at d (n + i + j))
+    (λ j h. getD-drop n d (i + j) 0 ∙ ap (at d) (sym (add-assoc n i j)))
+
+pub blocks-none : blocks [] ≡ []
+unfolding blocks
+blocks-none = refl
+
+pub blocks-first : (d : List ℕ) → 0 < length d → blocks d ≡ blockFrom d 0 ∷ blocks (drop 16 d)
+unfolding blocks
+blocks-first d h =
+    ap (λ (n : ℕ). tab n (λ k. blockFrom d (16 * k))) count
+    ∙ ap (λ (l : List (List ℕ)). blockFrom d 0 ∷ l) (tab-ext _ (λ k. blockFrom d (16 * suc k)) (λ k. blockFrom (drop 16 d) (16 * k)) step)
+  where
+    count : blockCount (length d) ≡ suc (blockCount (length (drop 16 d)))
+    count = rw (length-drop 16 d) (omega arith)
+
+    step : (k : ℕ) → k < blockCount (length (drop 16 d)) → blockFrom d (16 * suc k) ≡ blockFrom (drop 16 d) (16 * k)
+    step k _ = let e : 16 * suc k ≡ 16 + 16 * k = omega arith in ap (blockFrom d) e ∙ sym (block-drop d 16 (16 * k))
+
+-- what is left from place i on: a block, and what is left behind it
+pub blocks-next : (d : List ℕ) (i : ℕ) → i < length d → blocks (drop i d) ≡ blockFrom d i ∷ blocks (drop (i + 16) d)
+blocks-next d i h =
+    blocks-first (drop i d) (rw (length-drop i d) (omega arith))
+    ∙ ap₂ (λ (b : List ℕ) (l : List (List ℕ)). b ∷ l) (block-drop d i 0 ∙ ap (blockFrom d) (add-zero i)) (ap blocks (drop-drop 16 i d))
+
+pub blocks-end : (d : List ℕ) (i : ℕ) → length d ≤ i → blocks (drop i d) ≡ []
+blocks-end d i h = ap blocks (drop-of-length-le d h) ∙ blocks-none

@@ -1,0 +1,30 @@
+use Rattle.cipher.specs.Aes.{roundOf}
+use borrow.Author.Needs.{needs}
+use Rattle.cipher.proofs.aes.round.Statement.{statement}
+use Rattle.cipher.proofs.aes.round.Tie as tie
+
+sub-bytes-requires : tie.Need-sub-bytes-requires
+sub-bytes-requires c κs = search needs
+
+shift-rows-requires : tie.Need-shift-rows-requires
+shift-rows-requires c κs = search needs
+
+mix-columns-requires : tie.Need-mix-columns-requires
+mix-columns-requires c κs = search needs
+
+add-round-key-requires : tie.Need-add-round-key-requires
+add-round-key-requires c κs = search needs
+
+returns : tie.Need-returns
+unfolding roundOf
+returns c = cc
+
+pub round-spec : {M : Type 1} → statement M
+round-spec =
+    tie.close
+    (tie.spec
+    sub-bytes-requires
+    shift-rows-requires
+    mix-columns-requires
+    add-round-key-requires
+    returns)

@@ -1,0 +1,20 @@
+use Rattle.cipher.specs.Aes.{aes128}
+use borrow.Author.Needs.{needs}
+use Rattle.cipher.proofs.aes128_block.Statement.{statement}
+use Rattle.cipher.proofs.aes128_block.Tie as tie
+
+table-requires : tie.Need-table-requires
+table-requires c κs = search needs
+
+expand-requires : tie.Need-expand-requires
+expand-requires c κs = search needs
+
+encipher-requires : tie.Need-encipher-requires
+encipher-requires c κs = search needs
+
+returns : tie.Need-returns
+unfolding aes128
+returns c = cc
+
+pub aes128-block-spec : {M : Type 1} → statement M
+aes128-block-spec = tie.close (tie.spec table-requires expand-requires encipher-requires returns)

@@ -1,0 +1,35 @@
+use Rattle.cipher.proofs.Chains.{mac-of-calls}
+use Rattle.cipher.specs.Aes.{cipher}
+use borrow.Author.Needs.{needs}
+use Rattle.cipher.proofs.ccm.mac_of.Statement.{statement}
+use Rattle.cipher.proofs.ccm.mac_of.Tie as tie
+
+flags-of-requires : tie.Need-flags-of-requires
+flags-of-requires c κs = search needs
+
+field-of-requires : tie.Need-field-of-requires
+field-of-requires c κs = search needs
+
+encipher-requires : tie.Need-encipher-requires
+encipher-requires c κs = search needs
+
+absorb-led-requires : tie.Need-absorb-led-requires
+absorb-led-requires c κs = search needs
+
+absorb-from-requires : tie.Need-absorb-from-requires
+absorb-from-requires c κs = search needs
+
+returns : tie.Need-returns
+returns c = let x = c .before .before .before .before .before .before .before .args in
+    mac-of-calls (cipher (x .w .now)) (x .m) (x .n) (x .a .now) (x .p .now) _ _ _ _ _ (c .before .before .before .before .flags-of .ensures) (c .before .before .before .field-of .ensures) (c .before .before .encipher .ensures) (c .before .absorb-led .ensures) (c .absorb-from .ensures)
+
+pub mac-of-spec : {M : Type 1} → statement M
+mac-of-spec =
+    tie.close
+    (tie.spec
+    flags-of-requires
+    field-of-requires
+    encipher-requires
+    absorb-led-requires
+    absorb-from-requires
+    returns)

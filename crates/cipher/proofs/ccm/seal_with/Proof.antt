@@ -1,0 +1,35 @@
+use Rattle.cipher.specs.Aes.{cipher}
+use Rattle.cipher.proofs.Streams.{seal-by}
+use borrow.Author.Needs.{needs}
+use Rattle.cipher.proofs.ccm.seal_with.Statement.{statement}
+use Rattle.cipher.proofs.ccm.seal_with.Tie as tie
+
+stream-into-requires : tie.Need-stream-into-requires
+stream-into-requires c κs = search needs
+
+mac-of-requires : tie.Need-mac-of-requires
+mac-of-requires c κs = search needs
+
+mask-requires : tie.Need-mask-requires
+mask-requires c κs = search needs
+
+put-block-requires : tie.Need-put-block-requires
+put-block-requires c κs = search needs
+
+same-length : tie.Need-same-length
+same-length c = search needs
+
+returns : tie.Need-returns
+returns c = let x = c .before .before .before .before .before .before .before .before .before .before .before .before .before in
+    seal-by (cipher (x .args .w .now)) (x .args .m) (x .args .n) (x .args .a .now) (x .args .p .now) (x .args .out .now) _ _ _ _ (x .pre .1 .0) (c .before .before .before .before .before .before .before .before .stream-into .ensures) (c .before .before .before .before .before .mac-of .ensures) (c .before .before .before .before .mask .ensures) (c .before .before .put-block .ensures)
+
+pub seal-with-spec : {M : Type 1} → statement M
+seal-with-spec =
+    tie.close
+    (tie.spec
+    stream-into-requires
+    mac-of-requires
+    mask-requires
+    put-block-requires
+    same-length
+    returns)

@@ -1,0 +1,24 @@
+use borrow.Author.Tests.{le-leb}
+use Rattle.octets.proofs.Choices.{tests}
+use Rattle.cipher.specs.Answers.{hashing}
+use Rattle.cipher.specs.Hash.{hashOf, padded}
+use borrow.Author.Needs.{needs}
+use Rattle.cipher.proofs.hash.Statement.{statement}
+use Rattle.cipher.proofs.hash.Tie as tie
+
+returns : tie.Need-returns
+unfolding hashing
+returns c = search tests
+
+table-requires : tie.Need-table-requires
+table-requires c κs = search needs
+
+hash-from-requires : tie.Need-hash-from-requires
+hash-from-requires c κs = search needs
+
+returns-2 : tie.Need-returns-2
+unfolding hashing hashOf padded
+returns-2 c = simp (le-leb _ _ (c .before .before .before .if1 .left), c .hash-from .ensures)
+
+pub hash-spec : {M : Type 1} → statement M
+hash-spec = tie.close (tie.spec returns table-requires hash-from-requires returns-2)

@@ -1,0 +1,23 @@
+use borrow.Author.Tests.{le-leb}
+use Rattle.octets.proofs.Choices.{tests}
+use Rattle.cipher.specs.Answers.{keyedHashing}
+use borrow.Author.Needs.{needs}
+use Rattle.cipher.proofs.keyed_hash.Statement.{statement}
+use Rattle.cipher.proofs.keyed_hash.Tie as tie
+
+returns : tie.Need-returns
+unfolding keyedHashing
+returns c = search tests
+
+table-requires : tie.Need-table-requires
+table-requires c κs = search needs
+
+keyed-hash-of-requires : tie.Need-keyed-hash-of-requires
+keyed-hash-of-requires c κs = search needs
+
+returns-2 : tie.Need-returns-2
+unfolding keyedHashing
+returns-2 c = simp (le-leb _ _ (c .before .before .before .if1 .left), c .keyed-hash-of .ensures)
+
+pub keyed-hash-spec : {M : Type 1} → statement M
+keyed-hash-spec = tie.close (tie.spec returns table-requires keyed-hash-of-requires returns-2)

@@ -1,0 +1,21 @@
+use Rattle.cipher.proofs.Pads.{hash-behind}
+use borrow.Author.Needs.{needs}
+use Rattle.cipher.proofs.mmo.hash_behind.Statement.{statement}
+use Rattle.cipher.proofs.mmo.hash_behind.Tie as tie
+
+plus-each-requires : tie.Need-plus-each-requires
+plus-each-requires c κs = search needs
+
+hash-in-requires : tie.Need-hash-in-requires
+hash-in-requires c κs = search needs
+
+hash-from-requires : tie.Need-hash-from-requires
+hash-from-requires c κs = search needs
+
+returns : tie.Need-returns
+returns c = let x = c .before .before .before .before .args in
+    hash-behind (x .k) (x .d .now) _ _ _ (x .x) (c .before .before .plus-each .ensures) (c .before .hash-in .ensures) (c .hash-from .ensures)
+
+pub hash-behind-spec : {M : Type 1} → statement M
+hash-behind-spec =
+    tie.close (tie.spec plus-each-requires hash-in-requires hash-from-requires returns)

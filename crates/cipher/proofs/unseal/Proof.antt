@@ -1,0 +1,73 @@
+use mathlib.Core.Path.{sym, _∙_}
+use native.Mathlib.Omega.{arith}
+use borrow.Author.Tests.{le-leb, lt-leb, not-true, not-false}
+use Rattle.cipher.specs.Answers.{opening}
+use Rattle.cipher.specs.Aes.{aes128}
+use Rattle.cipher.proofs.Opens.{tag-most}
+use borrow.Author.Needs.{needs}
+use Rattle.cipher.proofs.unseal.Statement.{statement}
+use Rattle.cipher.proofs.unseal.Tie as tie
+
+tag-length-requires : tie.Need-tag-length-requires
+tag-length-requires c κs = search needs
+
+returns : tie.Need-returns
+unfolding opening
+returns c = simp (sym (c .before .tag-length .ensures) ∙ not-true _ (c .if1 .taken))
+
+returns-2 : tie.Need-returns-2
+unfolding opening
+returns-2 c = simp (sym (c .before .before .tag-length .ensures) ∙ not-false _ (c .before .if1 .left), lt-leb _ _ (c .if2 .taken))
+
+add-if3 : tie.Need-add-if3
+add-if3 c = let h = tag-most _ (sym (c .before .before .tag-length .ensures) ∙ not-false _ (c .before .if1 .left)) in omega arith
+
+returns-3 : tie.Need-returns-3
+unfolding opening
+returns-3 c = simp (sym (c .before .before .before .tag-length .ensures) ∙ not-false _ (c .before .before .if1 .left), le-leb _ _ (c .before .if2 .left), lt-leb _ _ (c .if3 .taken))
+
+returns-4 : tie.Need-returns-4
+unfolding opening
+returns-4 c = simp (sym (c .before .before .before .before .tag-length .ensures) ∙ not-false _ (c .before .before .before .if1 .left), le-leb _ _ (c .before .before .if2 .left), le-leb _ _ (c .before .if3 .left), lt-leb _ _ (c .if4 .taken))
+
+sub-if5 : tie.Need-sub-if5
+sub-if5 c = search needs
+
+returns-5 : tie.Need-returns-5
+unfolding opening
+returns-5 c = simp (sym (c .before .before .before .before .before .tag-length .ensures) ∙ not-false _ (c .before .before .before .before .if1 .left), le-leb _ _ (c .before .before .before .if2 .left), le-leb _ _ (c .before .before .if3 .left), le-leb _ _ (c .before .if4 .left), lt-leb _ _ (c .if5 .taken))
+
+table-requires : tie.Need-table-requires
+table-requires c κs = search needs
+
+expand-requires : tie.Need-expand-requires
+expand-requires c κs = search needs
+
+open-with-requires : tie.Need-open-with-requires
+open-with-requires c κs = let h = tag-most _ (sym (c .before .before .before .before .before .before .before .before .before .before .before .tag-length .ensures) ∙ not-false _ (c .before .before .before .before .before .before .before .before .before .before .if1 .left)) in
+    (c .before .before .before .before .before .table .ensures, (h, (c .before .before .before .before .before .before .before .if4 .left, (c .before .before .before .before .before .before .before .before .if3 .left, c .before .before .before .before .before .before .if5 .left))))
+
+same-length : tie.Need-same-length
+same-length c = search needs
+
+returns-6 : tie.Need-returns-6
+unfolding opening aes128
+returns-6 c = simp (sym (c .before .before .before .before .before .before .before .before .before .before .before .before .before .before .tag-length .ensures) ∙ not-false _ (c .before .before .before .before .before .before .before .before .before .before .before .before .before .if1 .left), le-leb _ _ (c .before .before .before .before .before .before .before .before .before .before .before .before .if2 .left), le-leb _ _ (c .before .before .before .before .before .before .before .before .before .before .before .if3 .left), le-leb _ _ (c .before .before .before .before .before .before .before .before .before .before .if4 .left), le-leb _ _ (c .before .before .before .before .before .before .before .before .before .if5 .left), ← c .before .before .before .before .before .before .expand .ensures) (c .before .before .open-with .ensures)
+
+pub unseal-spec : {M : Type 1} → statement M
+unseal-spec =
+    tie.close
+    (tie.spec
+    tag-length-requires
+    returns
+    returns-2
+    add-if3
+    returns-3
+    returns-4
+    sub-if5
+    returns-5
+    table-requires
+    expand-requires
+    open-with-requires
+    same-length
+    returns-6)

@@ -1,0 +1,85 @@
+-- What the callable routines answer, in document 01's numbers, and what they leave.
+-- Assumes nothing.
+use mathlib.Core.Bool.{Bool, true, false}
+use mathlib.Core.List.{List, [], _∷_, _++_}
+use Prim.Native.Nat.{ℕ, _+_, _-_, _%_}
+use lib.Dec.{eqb, leb, ltb}
+use lib.ListN.{length}
+use Rattle.octets.specs.Choice.{if_then_else_, both}
+use Rattle.octets.specs.Lists.{onto}
+use Rattle.cipher.specs.Aes.{aes128}
+use Rattle.cipher.specs.Blocks.{zeroBlock}
+use Rattle.cipher.specs.Ccm.{ccmSeal, ccmOpen, Opened, valid, invalid}
+use Rattle.cipher.specs.Hash.{hashOf, keyedHash}
+use Rattle.cipher.specs.declared.Fault.{Fault}
+use Rattle.cipher.specs.declared.Fault.the-variants.{Room, Long, Short, Forged, Argument}
+use Rattle.cipher.specs.declared.Answer.{Answer}
+use Rattle.cipher.specs.declared.Answer.the-variants.{Made, Refused}
+
+-- the number of a refusal in 01's table
+abbrev pub number : Fault → ℕ
+number Room = 1
+number Long = 2
+number Short = 3
+number Forged = 9
+number Argument = 14
+
+-- what an answer says: how many octets were made, or the number of the refusal
+pub data Told : Type 0 where
+  made : ℕ → Told
+  refused : ℕ → Told
+
+abbrev pub told : Answer → Told
+told (Made n) = made n
+told (Refused f) = refused (number f)
+
+-- an answer, and the octets that go with it
+pub record Outcome : Type 0 where
+  pub answer : Told
+  pub octets : List ℕ
+
+abbrev pub gave : Told → List ℕ → Outcome
+gave t o = record { answer = t; octets = o }
+
+-- Annex A, prerequisite 4: "valid values for M are the integers 0, 4, 6, 8, 10, 12, 14, and 16"
+unfoldable pub tagLength : ℕ → Bool
+tagLength M = if eqb M 0 then true else both (leb 4 M) (both (leb M 16) (eqb (M % 2) 0))
+
+-- the most octets, authenticated or payload, that are taken: above every frame's, which has no more than 116
+abbrev pub most : ℕ
+most = 128
+
+-- a message sealed, and laid at the start of the output o
+unfoldable pub sealing : ℕ → List ℕ → List ℕ → List ℕ → List ℕ → List ℕ → Outcome
+sealing M k n a m o =
+    if tagLength M then
+    if both (leb (length a) most) (leb (length m) most) then
+    if leb (length m + M) (length o)
+    then gave (made (length m + M)) (onto (ccmSeal (aes128 k) M n a m) o)
+    else gave (refused 1) o
+    else gave (refused 2) o
+    else gave (refused 14) o
+
+-- what opening tells, and what it leaves in the output: only a message whose tag fits is laid there
+abbrev pub openedOnto : Opened → List ℕ → Outcome
+openedOnto (valid m) o = gave (made (length m)) (onto m o)
+openedOnto invalid o = gave (refused 9) o
+
+unfoldable pub opening : ℕ → List ℕ → List ℕ → List ℕ → List ℕ → List ℕ → Outcome
+opening M k n a c o =
+    if tagLength M then
+    if both (leb (length a) most) (leb (length c) (most + M)) then
+    if leb M (length c) then
+    if leb (length c - M) (length o)
+    then openedOnto (ccmOpen (aes128 k) M n a c) o
+    else gave (refused 1) o
+    else gave (refused 3) o
+    else gave (refused 2) o
+    else gave (refused 14) o
+
+-- 01, "Hash": input up to 256 octets, keyed hash 240, else 2; a refusal's octets are zero
+unfoldable pub hashing : List ℕ → Outcome
+hashing d = if leb (length d) 256 then gave (made 16) (hashOf d) else gave (refused 2) zeroBlock
+
+unfoldable pub keyedHashing : List ℕ → List ℕ → Outcome
+keyedHashing k d = if leb (length d) 240 then gave (made 16) (keyedHash k d) else gave (refused 2) zeroBlock

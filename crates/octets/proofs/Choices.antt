@@ -1,0 +1,21 @@
+-- Laws of choosing, and the tests that a return of a function that branches is answered by.
+-- Assumes nothing.
+use mathlib.Core.Path.{_≡_, refl}
+use mathlib.Core.Bool.{Bool, true, false}
+use borrow.Author.Tests.{lt-ltb, le-ltb, le-leb, lt-leb, eq-eqb, ne-eqb}
+use Rattle.octets.specs.Choice.{if_then_else_, both}
+
+pub ruleset tests = (lt-ltb, le-ltb, le-leb, lt-leb, eq-eqb, ne-eqb)
+
+pub both-true : (t : Bool) → both t true ≡ t
+both-true true = refl
+both-true false = refl
+
+pub both-assoc : (a b c : Bool) → both (both a b) c ≡ both a (both b c)
+both-assoc true b c = refl
+both-assoc false b c = refl
+
+-- what a choice is, goes by its test
+pub choose : {A : Type 0} (P : A → Type 0) (t : Bool) (x y : A) → (t ≡ true → P x) → (t ≡ false → P y) → P (if t then x else y)
+choose P true x y f g = f refl
+choose P false x y f g = g refl
