@@ -5,3 +5,6 @@ pub mod Chains
 pub mod Streams
 pub mod Pads
 pub mod Opens
+pub mod RoundTrip
+pub mod Lengths
+pub mod Cases

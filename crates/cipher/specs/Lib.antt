@@ -5,3 +5,4 @@ pub mod Blocks
 pub mod Ccm
 pub mod Hash
 pub mod Answers
+pub mod Cases

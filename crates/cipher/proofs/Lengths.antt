@@ -1,0 +1,64 @@
+-- What the frame work cites of the callable routines' outcomes: when they succeed, how long what they make is.
+-- Assumes nothing.
+use mathlib.Core.Path.{_≡_, refl, sym, ap, ap₂, _∙_}
+use mathlib.Core.Bool.{Bool, true}
+use mathlib.Core.List.{List, [], _∷_}
+use Prim.Native.Nat.{ℕ, _+_, _-_, _≤_}
+use native.Mathlib.Nat.{le-refl}
+use native.Mathlib.Omega.{arith}
+use borrow.Author.Tests.{le-leb}
+use lib.ListN.{length}
+use Rattle.octets.specs.Lists.{onto}
+use Rattle.cipher.specs.Aes.{addBlocks, aes128}
+use Rattle.cipher.specs.Blocks.{zeroBlock, blocks, over}
+use Rattle.cipher.specs.Ccm.{ccmSeal, ccmOpen, valid, invalid, bodyOf, fits, streamed}
+use Rattle.cipher.specs.Hash.{hashedIn, hashOf, keyedHash, plusEach, padded}
+use Rattle.cipher.specs.Answers.{gave, made, refused, most, tagLength, sealing, opening, openedOnto, hashing, keyedHashing}
+use Rattle.cipher.proofs.Opens.{tag-most}
+use Rattle.cipher.proofs.Parsed.{blocks-first}
+use Rattle.cipher.proofs.RoundTrip.{aes-blocky, open-seal, seal-length}
+
+module _ (M : ℕ) (k n a : List ℕ) (t : tagLength M ≡ true) (ha : length a ≤ most) where
+  -- sealing with room
+  pub sealing-made : (m o : List ℕ) → length m ≤ most → length m + M ≤ length o
+      → sealing M k n a m o ≡ gave (made (length m + M)) (onto (ccmSeal (aes128 k) M n a m) o)
+  unfolding sealing
+  sealing-made m o hm ho = simp (t, le-leb _ _ ha, le-leb _ _ hm, le-leb _ _ ho)
+
+  -- opening of octets that are neither too long nor too short, with room
+  pub opening-judged : (c o : List ℕ) → length c ≤ most + M → M ≤ length c → length c - M ≤ length o
+      → opening M k n a c o ≡ openedOnto (ccmOpen (aes128 k) M n a c) o
+  unfolding opening
+  opening-judged c o hl hs ho = simp (t, le-leb _ _ ha, le-leb _ _ hl, le-leb _ _ hs, le-leb _ _ ho)
+
+  -- opening of what was sealed
+  pub opening-sealed : (m o : List ℕ) → length m ≤ most → length m ≤ length o
+      → opening M k n a (ccmSeal (aes128 k) M n a m) o ≡ gave (made (length m)) (onto m o)
+  opening-sealed m o hm ho =
+      let l = seal-length (aes128 k) M n a m in
+      opening-judged (ccmSeal (aes128 k) M n a m) o (omega arith) (omega arith) (omega arith)
+      ∙ ap (λ r. openedOnto r o) (open-seal (aes128 k) (aes-blocky k) M n a m (tag-most M t))
+
+-- ---- the hash
+
+hashed-length : (h : List ℕ) (bs : List (List ℕ)) → length h ≡ 16 → length (over hashedIn h bs) ≡ 16
+unfolding over hashedIn
+hashed-length h [] e = e
+hashed-length h (b ∷ bs) e = hashed-length (addBlocks (aes128 h b) b) bs refl
+
+-- a hash has 16 octets
+pub hash-length : (d : List ℕ) → length (hashOf d) ≡ 16
+unfolding hashOf
+hash-length d = hashed-length zeroBlock (blocks (padded d)) refl
+
+pub keyed-length : (k d : List ℕ) → length (keyedHash k d) ≡ 16
+unfolding keyedHash
+keyed-length k d = hash-length _
+
+pub hashing-made : (d : List ℕ) → length d ≤ 256 → hashing d ≡ gave (made 16) (hashOf d)
+unfolding hashing
+hashing-made d h = simp (le-leb _ _ h)
+
+pub keyed-made : (k d : List ℕ) → length d ≤ 240 → keyedHashing k d ≡ gave (made 16) (keyedHash k d)
+unfolding keyedHashing
+keyed-made k d h = simp (le-leb _ _ h)
