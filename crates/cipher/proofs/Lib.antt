@@ -8,3 +8,4 @@ pub mod Opens
 pub mod RoundTrip
 pub mod Lengths
 pub mod Cases
+pub mod Kept

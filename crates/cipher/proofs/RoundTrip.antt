@@ -27,6 +27,7 @@ module _ (E : List ℕ → List ℕ) (n : List ℕ) where
     where
       key : ℕ → ℕ
       key i = at (keyStream E n (i / 16 + 1)) (i % 16)
+
       back : (i : ℕ) → i < length m → octetAt E n (streamed E n m) i ≡ at m i
       back i h = ap (λ (x : ℕ). bitXor x (key i)) (getD-tab (length m) (octetAt E n m) i 0 h) ∙ xor-twice (at m i) (key i)
 
@@ -101,7 +102,7 @@ unfolding fits ccmSeal
 open-only E M n a c h e =
     sym (take-append-drop (length c - M) c)
     ∙ ap₂ (λ (x y : List ℕ). x ++ y) (sym (streamed-twice E n (bodyOf M c)))
-      (sym (masked-twice E n M (sealOf M c) long) ∙ ap (masked E M n) (same-equal _ _ e))
+    (sym (masked-twice E n M (sealOf M c) long) ∙ ap (masked E M n) (same-equal _ _ e))
   where
     long : length (sealOf M c) ≡ M
     long = length-drop (length c - M) c ∙ (omega arith)

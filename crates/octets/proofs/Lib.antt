@@ -5,3 +5,4 @@ pub mod Filled
 pub mod Compared
 pub mod Tables
 pub mod Pasted
+pub mod AllOctets

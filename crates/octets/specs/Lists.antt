@@ -33,5 +33,5 @@ abbrev pub pasted : List ℕ → ℕ → List ℕ → List ℕ
 pasted o i s = if leb (i + length s) (length o) then paste o i s (length s) else o
 
 -- every element is an octet
-abbrev pub Octets : List ℕ → Type 0
-Octets s = (i : ℕ) → at s i < 256
+pub record Octets (s : List ℕ) : Type 0 where
+  pub octet : (i : ℕ) → at s i < 256
