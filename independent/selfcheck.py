@@ -1,0 +1,122 @@
+"""Compares aes.py, ccm.py and mmo.py with the published vectors and with another implementation."""
+
+import random
+import sys
+
+sys.dont_write_bytecode = True
+
+import aes
+import ccm
+import mmo
+from vectors import Desk, annexc, fips197, flip, ok, rfc3610, run_of
+
+BLOCKS, CASES, SEED = 1500, 1000, 3610
+
+
+def same(what, ours, theirs):
+    """Stops at the first difference."""
+    if ours != theirs:
+        sys.exit(f"{what}: ours {ours!r}, expected {theirs!r}")
+
+
+def published():
+    """Every row of data/; the number of comparisons."""
+    for name, key, block, enciphered in fips197():
+        same(f"FIPS 197 {name}", aes.encipher(key, block), enciphered)
+    for name, M, key, nonce, a, m, sealed in rfc3610():
+        same(f"RFC 3610 {name} sealed", ccm.seal(M, key, nonce, a, m), sealed)
+        same(f"RFC 3610 {name} opened", ccm.open(M, key, nonce, a, sealed), m)
+    for clause, word, fields, result in annexc():
+        line = "\t".join([word, *fields]).encode("ascii")
+        same(f"Annex {clause}", Desk().answer(line), ok(result))
+    return len(fips197()) + 2 * len(rfc3610()) + len(annexc())
+
+
+def recovered_keys():
+    """The keys that Annex C.6 leaves unprinted, from the values that it prints."""
+    by_clause = {clause: (fields, result) for clause, _, fields, result in annexc()}
+    key = bytes.fromhex(by_clause["C.6.1"][0][0])
+    inner = bytes.fromhex(by_clause["C.6.1 step 4"][0][0])[:16]
+    outer = bytes.fromhex(by_clause["C.6.1 step 8"][0][0])[:16]
+    same("C.6.1, key from Key1", ccm.xor(inner, mmo.IPAD), key)
+    same("C.6.1, key from Key2", ccm.xor(outer, mmo.OPAD), key)
+    long_key = bytes.fromhex(by_clause["C.6.2 step 1"][0][0])
+    key0 = bytes.fromhex(by_clause["C.6.2"][0][0])
+    same("C.6.2, Key0 from the key", mmo.digest(long_key), key0)
+    inner = bytes.fromhex(by_clause["C.6.2 step 5"][0][0])[:16]
+    outer = bytes.fromhex(by_clause["C.6.2 step 9"][0][0])[:16]
+    same("C.6.2, Key1", ccm.xor(key0, mmo.IPAD), inner)
+    same("C.6.2, Key2", ccm.xor(key0, mmo.OPAD), outer)
+
+
+def bench_cases():
+    """M2 to M8 of document 01."""
+    nonce = bytes.fromhex("0000000001000000050000002d")
+    same("M2", ccm.b0(4, nonce, b"\x00", bytes(3)), b"\x49" + nonce + b"\x00\x03")
+    same("M3", ccm.counter_block(nonce, 1), b"\x01" + nonce + b"\x00\x01")
+    same("M4", ccm.auth_data(run_of(22), b"")[:2], b"\x00\x16")
+    for name, length, whole, ending in (("M5", 13, 16, "800068"), ("M6", 14, 32, ""),
+                                        ("M7", 17, 32, "0088"), ("M8", 32, 48, "0100")):
+        padded = mmo.pad(run_of(length))
+        same(name, (len(padded), padded[len(padded) - len(ending) // 2:].hex()), (whole, ending))
+
+
+def tagless():
+    """M = 0: the ciphertext of any other M, and nothing more (A.2.3)."""
+    for length in (0, 1, 16, 33):
+        key, nonce, a, m = run_of(16), run_of(13, 1), run_of(9), run_of(length, 2)
+        sealed = ccm.seal(0, key, nonce, a, m)
+        same("M = 0 sealed", sealed, ccm.seal(16, key, nonce, a, m)[:length])
+        same("M = 0 opened", ccm.open(0, key, nonce, a, sealed), m)
+
+
+def short_or_long(rng):
+    """A length from 0 to 128, mostly a short one."""
+    return rng.randint(0, 128) if rng.random() < 0.15 else rng.randint(0, 34)
+
+
+def against_package():
+    """AES and CCM beside the package `cryptography`; what was compared."""
+    try:
+        from cryptography.exceptions import InvalidTag
+        from cryptography.hazmat.primitives.ciphers import Cipher, algorithms, modes
+        from cryptography.hazmat.primitives.ciphers.aead import AESCCM
+    except ImportError:
+        return "package cryptography not found, nothing compared with it"
+
+    def their_open(cipher, nonce, a, c):
+        try:
+            return cipher.decrypt(nonce, c, a)
+        except InvalidTag:
+            return None
+
+    rng = random.Random(SEED)
+    for i in range(BLOCKS):
+        key, block = rng.randbytes(16), rng.randbytes(16)
+        theirs = Cipher(algorithms.AES(key), modes.ECB()).encryptor().update(block)
+        same(f"AES block {i}", aes.encipher(key, block), theirs)
+    for i in range(CASES):
+        M = ccm.TAGS[1 + i % 7]
+        key, nonce = rng.randbytes(16), rng.randbytes(13)
+        a, m = rng.randbytes(short_or_long(rng)), rng.randbytes(short_or_long(rng))
+        cipher = AESCCM(key, tag_length=M)
+        sealed = cipher.encrypt(nonce, m, a)
+        same(f"CCM case {i} sealed", ccm.seal(M, key, nonce, a, m), sealed)
+        same(f"CCM case {i} opened", ccm.open(M, key, nonce, a, sealed), m)
+        altered = flip(sealed, rng.randrange(8 * len(sealed)))
+        same(f"CCM case {i} altered", ccm.open(M, key, nonce, a, altered),
+             their_open(cipher, nonce, a, altered))
+    return f"{BLOCKS} AES blocks and {CASES} CCM cases agree with package cryptography"
+
+
+def main():
+    """All comparisons, then one closing line."""
+    count = published()
+    recovered_keys()
+    bench_cases()
+    tagless()
+    print(f"selfcheck: {count} published comparisons hold; {against_package()}")
+
+
+if __name__ == "__main__":
+    main()

@@ -1,0 +1,489 @@
+"""Makes, checks or answers the scripts of the program `vectors`.
+
+vectors.py            writes crates/vectors/stdin and crates/vectors/stdout
+vectors.py --check    exits 1 if a stored file differs from what would be written
+vectors.py --answer   answers the script on standard input
+"""
+
+import re
+import sys
+from pathlib import Path
+
+sys.dont_write_bytecode = True
+
+import aes
+import ccm
+import mmo
+
+HERE = Path(__file__).resolve().parent
+STORED = HERE.parent / "crates" / "vectors"
+
+WORDS = {1: "room", 2: "long", 3: "short", 9: "forged", 14: "argument"}  # document 01's numbers
+MOST = 128       # octets of A and of P
+LENT_MOST = 256  # octets of a lent output
+
+
+# ---- the line language -------------------------------------------------------------------------
+
+class Bad(Exception):
+    """The line is none of the language's."""
+
+
+class Refused(Exception):
+    """A refusal by its number in document 01."""
+
+    def __init__(self, number):
+        super().__init__(number)
+        self.number = number
+
+
+def refuse_if(condition, number):
+    """Refuses with the number where the condition holds."""
+    if condition:
+        raise Refused(number)
+
+
+def octets_field(least, most):
+    """The reader of a hex field of least to most octets, digits of either case."""
+    def read(field):
+        if not re.fullmatch(rb"(?:[0-9A-Fa-f]{2})*", field) or not least <= len(field) // 2 <= most:
+            raise Bad
+        return bytes.fromhex(field.decode("ascii"))
+    return read
+
+
+def decimal_field(most):
+    """The reader of a decimal field from 0 to most (at most three digits), no leading zero."""
+    def read(field):
+        if not re.fullmatch(rb"0|[1-9][0-9]{0,2}", field) or int(field) > most:
+            raise Bad
+        return int(field)
+    return read
+
+
+SIXTEEN = octets_field(16, 16)
+NONCE = octets_field(13, 13)
+TEXT = octets_field(0, 256)
+DATA = octets_field(0, 512)
+TAG = decimal_field(255)
+
+
+class Desk:
+    """Answers lines; remembers only the length of the output lent to seal and open."""
+
+    def __init__(self):
+        self.lent = LENT_MOST
+        self.lines = {
+            b"aes": ((SIXTEEN, SIXTEEN), aes.encipher),
+            b"seal": ((TAG, SIXTEEN, NONCE, TEXT, TEXT), self.seal),
+            b"open": ((TAG, SIXTEEN, NONCE, TEXT, TEXT), self.open),
+            b"hash": ((DATA,), mmo.digest),
+            b"keyedhash": ((SIXTEEN, DATA), mmo.keyed),
+            b"lend": ((decimal_field(LENT_MOST),), self.lend),
+        }
+
+    def lend(self, size):
+        """Sets the length lent from now on; has no octets to answer."""
+        self.lent = size
+
+    def seal(self, M, key, nonce, a, p):
+        """Annex A.2 behind the refusals 14, 2 and 1."""
+        refuse_if(M not in ccm.TAGS, 14)
+        refuse_if(len(a) > MOST or len(p) > MOST, 2)
+        refuse_if(self.lent < len(p) + M, 1)
+        return ccm.seal(M, key, nonce, a, p)
+
+    def open(self, M, key, nonce, a, c):
+        """Annex A.3 behind the refusals 14, 2, 3 and 1, then 9."""
+        refuse_if(M not in ccm.TAGS, 14)
+        refuse_if(len(a) > MOST or len(c) > MOST + M, 2)
+        refuse_if(len(c) < M, 3)
+        refuse_if(self.lent < len(c) - M, 1)
+        plain = ccm.open(M, key, nonce, a, c)
+        refuse_if(plain is None, 9)
+        return plain
+
+    def run(self, line):
+        """The octets that a line answers with, or None for `lend`."""
+        word, *fields = line.split(b"\t")
+        if word not in self.lines:
+            raise Bad
+        readers, action = self.lines[word]
+        if len(fields) != len(readers):
+            raise Bad
+        return action(*(read(field) for read, field in zip(readers, fields)))
+
+    def answer(self, line):
+        """What follows the line's number."""
+        try:
+            result = self.run(line)
+        except Bad:
+            return "bad"
+        except Refused as refusal:
+            return refused(refusal.number)
+        except mmo.TooLong:
+            return refused(2)
+        return "ok" if result is None else ok(result)
+
+
+def ok(octets):
+    """The answer that gives octets."""
+    return "ok\t" + octets.hex()
+
+
+def refused(number):
+    """The answer that refuses."""
+    return f"refused\t{number}\t{WORDS[number]}"
+
+
+def lines_of(script):
+    """The lines of a script; the last may lack its line feed."""
+    lines = script.split(b"\n")
+    return lines[:-1] if lines[-1] == b"" else lines
+
+
+def answers(script):
+    """The numbered answers to a script, by line number."""
+    desk = Desk()
+    return {n: desk.answer(line) for n, line in enumerate(lines_of(script), 1)
+            if line and not line.startswith(b"#")}
+
+
+def answered(script):
+    """What the program `vectors` writes for a script."""
+    return "".join(f"{n}\t{text}\n" for n, text in answers(script).items()).encode("ascii")
+
+
+# ---- the published vectors ---------------------------------------------------------------------
+
+def table(name):
+    """The rows of a file in data/, comment lines left out."""
+    text = (HERE / "data" / name).read_text(encoding="ascii")
+    return [line.split("\t") for line in text.splitlines() if line and not line.startswith("#")]
+
+
+def fips197():
+    """Rows of appendix, key, block, enciphered."""
+    return [(name, *map(bytes.fromhex, rest)) for name, *rest in table("fips197.tsv")]
+
+
+def rfc3610():
+    """Rows of number, M, key, nonce, a, m, sealed."""
+    return [(name, int(M), *map(bytes.fromhex, rest)) for name, M, *rest in table("rfc3610.tsv")]
+
+
+def annexc():
+    """Rows of clause, word, the word's fields as text, the published octets."""
+    return [(clause, word, fields, bytes.fromhex(result))
+            for clause, word, *fields, result in table("annexc.tsv")]
+
+
+# ---- the script --------------------------------------------------------------------------------
+
+class Script:
+    """Lines, and for most of them the answer that their author expects."""
+
+    def __init__(self):
+        self.lines = []
+        self.expected = {}
+
+    def raw(self, line, expect=None):
+        """Adds a line as it stands."""
+        self.lines.append(line.encode("utf-8"))
+        if expect is not None:
+            self.expected[len(self.lines)] = expect
+
+    def add(self, *fields, expect=None):
+        """Adds a line of fields; octets are written as hex."""
+        self.raw("\t".join(f.hex() if isinstance(f, bytes) else str(f) for f in fields), expect)
+
+    def group(self, title):
+        """Adds the comment that names a group."""
+        self.raw("# " + title)
+
+    def text(self):
+        """The script, its last line without a line feed."""
+        return b"\n".join(self.lines)
+
+
+def run_of(length, start=3):
+    """Octets start, start + 7, start + 14, ... modulo 256."""
+    return bytes((7 * i + start) % 256 for i in range(length))
+
+
+def flip(octets, bit):
+    """The octets with one bit changed; bits are counted from the first octet's lowest."""
+    bit %= 8 * len(octets)
+    return bytes(o ^ (1 << bit % 8 if i == bit // 8 else 0) for i, o in enumerate(octets))
+
+
+KEY = bytes(range(0x10, 0x20))
+N13 = bytes(range(0xA0, 0xAD))
+
+
+def add_blocks(script):
+    """FIPS 197, and blocks of equal octets."""
+    script.group("FIPS 197, appendices B and C.1")
+    for _, key, block, enciphered in fips197():
+        script.add("aes", key, block, expect=ok(enciphered))
+    script.group("aes: all zero, all ones")
+    for key in (bytes(16), b"\xff" * 16):
+        for block in (bytes(16), b"\xff" * 16):
+            script.add("aes", key, block)
+
+
+def add_rfc3610(script):
+    """Each vector sealed, opened, and opened with a bit of the tag, then of text or A, flipped."""
+    script.group("RFC 3610, packet vectors 1 to 24: sealed, opened, twice altered")
+    for number, M, key, nonce, a, m, sealed in rfc3610():
+        n, split = int(number), len(sealed) - M
+        text, tag = sealed[:split], sealed[split:]
+        script.add("seal", M, key, nonce, a, m, expect=ok(sealed))
+        script.add("open", M, key, nonce, a, sealed, expect=ok(m))
+        script.add("open", M, key, nonce, a, text + flip(tag, 11 * n), expect=refused(9))
+        if n % 2:
+            script.add("open", M, key, nonce, a, flip(text, 13 * n) + tag, expect=refused(9))
+        else:
+            script.add("open", M, key, nonce, flip(a, 5 * n), sealed, expect=refused(9))
+
+
+def add_annexc(script):
+    """Annex C of the 2005 edition."""
+    script.group("Zigbee Annex C.3 to C.6, with the values printed between")
+    for _, word, fields, result in annexc():
+        script.add(word, *fields, expect=ok(result))
+
+
+def add_hashes(script):
+    """Lengths about the padding's edges and about the greatest allowed."""
+    script.group("hash: lengths")
+    for length in (0, 1, 13, 14, 15, 16, 17, 29, 30, 32, 240, 241, 256, 257, 512):
+        script.add("hash", run_of(length), expect=refused(2) if length > 256 else None)
+    script.group("keyedhash: lengths")
+    for length in (0, 1, 13, 14, 16, 17, 239, 240, 241, 512):
+        script.add("keyedhash", KEY, run_of(length), expect=refused(2) if length > 240 else None)
+    script.group("keyedhash: the two octets that a link key is hashed over")
+    for octet in (b"\x00", b"\x02"):
+        script.add("keyedhash", b"ZigBeeAlliance09", octet)
+
+
+A_LENGTHS = (0, 1, 13, 14, 15, 30, 31, 128, 129)
+P_LENGTHS = (0, 1, 15, 16, 17, 31, 32, 90, 128, 129)
+
+
+def add_lengths(script):
+    """For every M each length of P once, against the lengths of A in turn."""
+    for turn, M in enumerate(ccm.TAGS):
+        script.group(f"M = {M}: lengths of A and P, sealed and opened")
+        for i, p_length in enumerate(P_LENGTHS):
+            a_length = A_LENGTHS[(i + turn) % len(A_LENGTHS)]
+            key, nonce = run_of(16, 17 * M + i), run_of(13, 29 * i + M)
+            a, p = run_of(a_length, 5), run_of(p_length, M)
+            sealed = ccm.seal(M, key, nonce, a, p)
+            long = a_length > MOST or p_length > MOST
+            script.add("seal", M, key, nonce, a, p, expect=refused(2) if long else ok(sealed))
+            script.add("open", M, key, nonce, a, sealed, expect=refused(2) if long else ok(p))
+
+
+def add_forged(script):
+    """For every M a wrong key or nonce, and the last bit; with M = 0 nothing is ever forged."""
+    script.group("key or nonce altered, then the last bit, for every M")
+    a, p = run_of(22), run_of(20, 9)
+    for turn, M in enumerate(ccm.TAGS):
+        sealed = ccm.seal(M, KEY, N13, a, p)
+        expect = refused(9) if M else None
+        key, nonce = (flip(KEY, 17 * M), N13) if turn % 2 else (KEY, flip(N13, 13 * M))
+        script.add("open", M, key, nonce, a, sealed, expect=expect)
+        script.add("open", M, KEY, N13, a, flip(sealed, -1), expect=expect)
+    script.group("M = 0: a bit of the text, then of A, changed")
+    sealed = ccm.seal(0, KEY, N13, a, p)
+    script.add("open", 0, KEY, N13, a, flip(sealed, 8), expect=ok(flip(p, 8)))
+    script.add("open", 0, KEY, N13, flip(a, 8), sealed, expect=ok(p))
+    script.group("a tag cut for another M")
+    for M, other in ((4, 6), (8, 4), (16, 0), (6, 8)):
+        c = ccm.seal(M, KEY, N13, a, p)
+        script.add("open", other, KEY, N13, a, c, expect=refused(9) if other else None)
+
+
+def add_refusals(script):
+    """Wrong M, too long, too short, and which refusal comes first."""
+    p = run_of(20, 9)
+    script.group("wrong M")
+    for M in (1, 2, 3, 5, 17, 255):
+        script.add("seal", M, KEY, N13, b"", p, expect=refused(14))
+        script.add("open", M, KEY, N13, b"", p, expect=refused(14))
+    script.group("14 before 2")
+    script.add("seal", 3, KEY, N13, run_of(129), p, expect=refused(14))
+    script.add("open", 3, KEY, N13, run_of(129), p, expect=refused(14))
+    script.group("C shorter than M, then just the tag")
+    for M in ccm.TAGS[1:]:
+        script.add("open", M, KEY, N13, b"\x01", run_of(M - 1), expect=refused(3))
+        script.add("open", M, KEY, N13, b"\x01", run_of(M), expect=refused(9))
+    script.add("open", 4, KEY, N13, b"\x01", b"", expect=refused(3))
+    script.add("open", 0, KEY, N13, b"\x01", b"", expect=ok(b""))
+    script.group("2 before 3")
+    script.add("open", 16, KEY, N13, run_of(129), b"\x00", expect=refused(2))
+    script.group("the longest fields")
+    long = run_of(256)
+    script.add("seal", 4, KEY, N13, long, p, expect=refused(2))
+    script.add("seal", 4, KEY, N13, b"", long, expect=refused(2))
+    script.add("open", 4, KEY, N13, b"", long, expect=refused(2))
+    script.add("seal", 4, KEY, N13, run_of(257), p, expect="bad")
+    script.add("seal", 4, KEY, N13, b"", run_of(257), expect="bad")
+    script.add("open", 4, KEY, N13, b"", run_of(257), expect="bad")
+    script.add("hash", run_of(513), expect="bad")
+    script.add("keyedhash", KEY, run_of(513), expect="bad")
+
+
+def add_lends(script):
+    """Lent outputs: exact, one octet short, none; and the refusals around 1."""
+    a = run_of(22)
+    for M, p_length in ((0, 20), (4, 0), (4, 20), (16, 128)):
+        p = run_of(p_length, 9)
+        c = ccm.seal(M, KEY, N13, a, p)
+        script.group(f"M = {M}, {p_length} octets: exact room, one octet short")
+        script.add("lend", len(c), expect="ok")
+        script.add("seal", M, KEY, N13, a, p, expect=ok(c))
+        script.add("lend", len(c) - 1, expect="ok")
+        script.add("seal", M, KEY, N13, a, p, expect=refused(1))
+        script.add("lend", p_length, expect="ok")
+        script.add("open", M, KEY, N13, a, c, expect=ok(p))
+        if p_length:
+            script.add("lend", p_length - 1, expect="ok")
+            script.add("open", M, KEY, N13, a, c, expect=refused(1))
+    script.group("nothing lent: 14, 2 and 3 before 1, 1 before 9")
+    p = run_of(20, 9)
+    c = ccm.seal(8, KEY, N13, a, p)
+    script.add("lend", 0, expect="ok")
+    script.add("seal", 9, KEY, N13, a, p, expect=refused(14))
+    script.add("open", 9, KEY, N13, a, c, expect=refused(14))
+    script.add("seal", 8, KEY, N13, run_of(129), p, expect=refused(2))
+    script.add("open", 8, KEY, N13, run_of(129), c, expect=refused(2))
+    script.add("open", 8, KEY, N13, a, run_of(7), expect=refused(3))
+    script.add("seal", 8, KEY, N13, a, p, expect=refused(1))
+    script.add("open", 8, KEY, N13, a, flip(c, 0), expect=refused(1))
+    script.add("seal", 0, KEY, N13, a, b"", expect=ok(b""))
+    script.add("open", 8, KEY, N13, a, ccm.seal(8, KEY, N13, a, b""), expect=ok(b""))
+    script.add("hash", b"\xc0")
+    script.group("a bad lend changes nothing")
+    script.add("lend", 27, expect="ok")
+    script.add("lend", 257, expect="bad")
+    script.add("seal", 8, KEY, N13, a, p, expect=refused(1))
+    script.group("back to 256")
+    script.add("lend", 256, expect="ok")
+    script.add("seal", 8, KEY, N13, a, p, expect=ok(c))
+    script.add("open", 8, KEY, N13, a, c, expect=ok(p))
+
+
+def add_bad(script):
+    """Lines that are not the language's, and some that only look so."""
+    key, nonce = KEY.hex(), N13.hex()
+    c0 = ok(bytes.fromhex("ae3a102a28d43ee0d4a09e22788b206c"))  # Annex C.5.1
+    script.group("bad: hex")
+    for data in ("abc", "0g", "c0 ", " c0", "0xc0", "é0", "c0\r", "+c"):
+        script.add("hash", data, expect="bad")
+    script.group("bad: lengths of key, block and nonce")
+    for wrong in (key[:-1], key + "0", key[:-2], key + "00", ""):
+        script.add("aes", wrong, key, expect="bad")
+    script.add("aes", key, key[:-2], expect="bad")
+    script.add("aes", key, key + "00", expect="bad")
+    script.add("keyedhash", key[:-2], "c0", expect="bad")
+    script.add("seal", 4, key[:-1], nonce, "", "", expect="bad")
+    script.add("open", 4, key + "00", nonce, "", "00", expect="bad")
+    for wrong in (nonce[:-1], nonce[:-2], nonce + "00", ""):
+        script.add("seal", 4, key, wrong, "", "", expect="bad")
+    script.add("open", 4, key, nonce[:-2], "", "00", expect="bad")
+    script.group("bad: decimals")
+    for wrong in ("04", "00", "256", "18446744073709551620", "-4", "4 ", "", "a"):
+        script.add("seal", wrong, key, nonce, "", "", expect="bad")
+    script.add("open", "08", key, nonce, "", "", expect="bad")
+    for wrong in ("007", "00", "4294967296", "+1", "", "256\r"):
+        script.add("lend", wrong, expect="bad")
+    script.group("bad: number of fields")
+    for line in (f"aes\t{key}", f"aes\t{key}\t{key}\t", f"seal\t4\t{key}\t{nonce}\t",
+                 f"seal\t4\t{key}\t{nonce}\t\t\t", f"open\t4\t{key}\t{nonce}\t",
+                 f"open\t4\t{key}\t{nonce}\t\t\t", "hash", "hash\tc0\tc0", "hash\t\tc0", "hash c0",
+                 f"keyedhash\t{key}", f"keyedhash\t{key}\tc0\tc0", "lend", "lend\t1\t1"):
+        script.raw(line, "bad")
+    script.group("bad: words")
+    for line in ("sing\tc0", "HASH\tc0", "hashes\tc0", "has\tc0", " hash\tc0", "\thash\tc0", "\r",
+                 " # no comment"):
+        script.raw(line, "bad")
+    script.group("fine: empty lines, comments, either case of hex, empty fields")
+    script.raw("")
+    script.raw("#")
+    script.raw("#\thash\tc0")
+    script.raw("")
+    script.raw("hash\tC0", c0)
+    script.raw("hash\tc0", c0)
+    for _, block_key, block, enciphered in fips197():
+        script.raw("aes\t" + block_key.hex().upper() + "\t" + block.hex().upper(), ok(enciphered))
+    script.raw("hash\t", ok(mmo.digest(b"")))
+    script.raw(f"keyedhash\t{key}\t", ok(mmo.keyed(KEY, b"")))
+    script.raw(f"seal\t4\t{key}\t{nonce}\t\t", ok(ccm.seal(4, KEY, N13, b"", b"")))
+    script.raw(f"seal\t0\t{key}\t{nonce}\t\t", ok(b""))
+    script.raw(f"open\t0\t{key}\t{nonce}\t\t", ok(b""))
+    script.group("the last line has no line feed")
+    script.raw("hash\tc0", c0)
+
+
+def make_script():
+    """The whole script."""
+    script = Script()
+    for add in (add_blocks, add_rfc3610, add_annexc, add_hashes, add_lengths, add_forged,
+                add_refusals, add_lends, add_bad):
+        add(script)
+    return script
+
+
+def made():
+    """Input and output of the program, every expected answer compared first."""
+    script = make_script()
+    given = answers(script.text())
+    for n, expected in script.expected.items():
+        if given.get(n) != expected:
+            sys.exit(f"line {n}: expected {expected!r}, our answer is {given.get(n)!r}")
+    return {"stdin": script.text(), "stdout": answered(script.text())}
+
+
+# ---- the command line --------------------------------------------------------------------------
+
+def check():
+    """Compares the stored files; the exit code."""
+    code = 0
+    for name, octets in made().items():
+        path = STORED / name
+        if not path.is_file():
+            print(f"crates/vectors/{name} is missing")
+            code = 1
+        elif path.read_bytes() != octets:
+            print(f"crates/vectors/{name} differs from what independent/vectors.py makes")
+            code = 1
+    return code
+
+
+def write():
+    """Writes both files; the exit code."""
+    files = made()
+    STORED.mkdir(parents=True, exist_ok=True)
+    for name, octets in files.items():
+        (STORED / name).write_bytes(octets)
+        print(f"crates/vectors/{name}: {len(lines_of(octets))} lines")
+    return 0
+
+
+def main(arguments):
+    """Writes, checks or answers; the exit code."""
+    if arguments == ["--answer"]:
+        sys.stdout.buffer.write(answered(sys.stdin.buffer.read()))
+        return 0
+    if arguments == ["--check"]:
+        return check()
+    if not arguments:
+        return write()
+    print(__doc__.strip())
+    return 2
+
+
+if __name__ == "__main__":
+    sys.exit(main(sys.argv[1:]))
