@@ -6,8 +6,7 @@ use Prim.Native.Nat.{ℕ, _+_, _<_, _≤_}
 use native.Mathlib.Omega.{arith}
 use lib.ListN.{length, drop}
 use Rattle.octets.specs.Lists.{at, tab}
-use Rattle.cipher.specs.Aes.{addBlocks}
-use Rattle.cipher.specs.Blocks.{twoOctets, blockFrom, blocks, zeroBlock, over}
+use Rattle.cipher.specs.Blocks.{twoOctets, blockFrom, blocks, over}
 use Rattle.cipher.specs.Ccm.{led, authData, field, flags, firstBlock, absorbed, macOf}
 use Rattle.cipher.proofs.Parsed.{blocks-first, blocks-next, blocks-end, blocks-none}
 

@@ -2,16 +2,16 @@
 -- Assumes nothing.
 use mathlib.Core.Path.{_≡_, refl}
 use mathlib.Core.Bool.{Bool, true, false}
-use mathlib.Core.List.{List, [], _∷_, _++_}
+use mathlib.Core.List.{List, [], _∷_}
 use Prim.Native.Nat.{ℕ, zero, suc, _+_, _-_, _*_, _/_, _%_, _<_, _≤_}
 use native.Mathlib.Nat.{mul-le-mul-right}
 use native.Mathlib.Omega.{arith}
-use borrow.Author.Tests.{ltb-true, ltb-false}
-use lib.Dec.{ltb}
 use lib.Bits.{bitXor}
+use lib.Dec.{ltb}
 use lib.ListN.{length, List·getD-eq-default}
-use Rattle.octets.specs.Lists.{at, tab, Octets}
+use borrow.Author.Tests.{ltb-true, ltb-false}
 use Rattle.octets.proofs.AllOctets.{xor-octet, tab-octets, nil-octets, cons-octets, append-octets, take-octets, zeros-octets}
+use Rattle.octets.specs.Lists.{at, tab, Octets}
 use Rattle.cipher.specs.Field.{xtime, mulBits, mul}
 use Rattle.cipher.specs.Sbox.{sbox, sboxTable}
 use Rattle.cipher.specs.Aes.{subBytes, shiftRows, mixed, below, mixColumns, addBlocks, addRoundKey, roundOf, lastRound, cipher, rcon, word, rotWord, addWords, turnedWord, nextKey, keyAt, keyExpansion, aes128}

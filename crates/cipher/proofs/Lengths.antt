@@ -1,21 +1,19 @@
 -- What the frame work cites of the callable routines' outcomes: when they succeed, how long what they make is.
 -- Assumes nothing.
-use mathlib.Core.Path.{_≡_, refl, sym, ap, ap₂, _∙_}
-use mathlib.Core.Bool.{Bool, true}
+use mathlib.Core.Path.{_≡_, refl, ap, _∙_}
+use mathlib.Core.Bool.{true}
 use mathlib.Core.List.{List, [], _∷_}
 use Prim.Native.Nat.{ℕ, _+_, _-_, _≤_}
-use native.Mathlib.Nat.{le-refl}
 use native.Mathlib.Omega.{arith}
-use borrow.Author.Tests.{le-leb}
 use lib.ListN.{length}
+use borrow.Author.Tests.{le-leb}
 use Rattle.octets.specs.Lists.{onto}
 use Rattle.cipher.specs.Aes.{addBlocks, aes128}
 use Rattle.cipher.specs.Blocks.{zeroBlock, blocks, over}
-use Rattle.cipher.specs.Ccm.{ccmSeal, ccmOpen, valid, invalid, bodyOf, fits, streamed}
-use Rattle.cipher.specs.Hash.{hashedIn, hashOf, keyedHash, plusEach, padded}
-use Rattle.cipher.specs.Answers.{gave, made, refused, most, tagLength, sealing, opening, openedOnto, hashing, keyedHashing}
+use Rattle.cipher.specs.Ccm.{ccmSeal, ccmOpen}
+use Rattle.cipher.specs.Hash.{hashedIn, hashOf, keyedHash, padded}
+use Rattle.cipher.specs.Answers.{gave, made, most, tagLength, sealing, opening, openedOnto, hashing, keyedHashing}
 use Rattle.cipher.proofs.Opens.{tag-most}
-use Rattle.cipher.proofs.Parsed.{blocks-first}
 use Rattle.cipher.proofs.RoundTrip.{aes-blocky, open-seal, seal-length}
 
 module _ (M : ℕ) (k n a : List ℕ) (t : tagLength M ≡ true) (ha : length a ≤ most) where

@@ -3,20 +3,20 @@
 use mathlib.Core.Path.{_≡_, refl, sym, ap, ap₂, _∙_}
 use mathlib.Core.Bool.{Bool, true, false}
 use mathlib.Core.List.{List}
-use Prim.Native.Nat.{ℕ, _+_, _-_, _%_, _≤_, _<_}
+use Prim.Native.Nat.{ℕ, _-_, _%_, _≤_, _<_}
 use native.Mathlib.Nat.{zero-add, le-refl}
 use native.Mathlib.Omega.{arith}
 use lib.Dec.{eqb, leb}
-use borrow.Author.Tests.{eqb-true, leb-true}
-use lib.ListN.{length, take, drop, length-drop, length-take}
+use lib.ListN.{length, take, drop, length-drop}
 use lib.Seq.{take-at, take-all, length-take-le}
+use borrow.Author.Tests.{eqb-true, leb-true}
+use Rattle.octets.proofs.Pasted.{pasted-onto}
 use Rattle.octets.specs.Choice.{if_then_else_, both}
 use Rattle.octets.specs.Lists.{at, eqList, onto, pasted}
-use Rattle.octets.proofs.Pasted.{pasted-onto}
 use Rattle.cipher.specs.Aes.{addBlocks}
 use Rattle.cipher.specs.Blocks.{blockFrom}
-use Rattle.cipher.specs.Ccm.{keyStream, streamed, masked, macOf, tagOf, bodyOf, sealOf, fits, ccmOpen, valid, invalid}
-use Rattle.cipher.specs.Answers.{Outcome, gave, made, refused, tagLength, openedOnto}
+use Rattle.cipher.specs.Ccm.{keyStream, streamed, masked, macOf, tagOf, bodyOf, sealOf, fits, ccmOpen}
+use Rattle.cipher.specs.Answers.{gave, made, refused, tagLength, openedOnto}
 use Rattle.cipher.proofs.Parsed.{block-at}
 use Rattle.cipher.proofs.Streams.{streamed-length, masked-block}
 

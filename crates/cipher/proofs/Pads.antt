@@ -1,16 +1,16 @@
 -- Laws of the hash's padding: what stands at each place, and how long it is.
 -- Assumes nothing.
 use mathlib.Core.Path.{_≡_, refl, sym, ap, ap₂, _∙_}
-use mathlib.Core.List.{List, [], _∷_, _++_}
+use mathlib.Core.Bool.{Bool, true, false}
+use mathlib.Core.List.{List, _∷_, _++_}
 use Prim.Native.Nat.{ℕ, suc, _+_, _-_, _*_, _/_, _%_, _<_, _≤_}
 use native.Mathlib.Nat.{add-zero}
 use native.Mathlib.Omega.{arith}
-use mathlib.Core.Bool.{Bool, true, false}
-use lib.Dec.{ltb}
-use borrow.Author.Tests.{ltb-true, ltb-false}
-use lib.ListN.{length, drop, replicate, length-append, length-replicate, getD-replicate, List·getD-append, List·getD-eq-default}
 use lib.Bits.{bitXor}
+use lib.Dec.{ltb}
+use lib.ListN.{length, replicate, length-append, length-replicate, getD-replicate, List·getD-append, List·getD-eq-default}
 use lib.Seq.{getD-append-add}
+use borrow.Author.Tests.{ltb-true, ltb-false}
 use Rattle.octets.specs.Lists.{at, tab}
 use Rattle.cipher.specs.Blocks.{twoOctets, blockFrom, blocks, zeroBlock, over}
 use Rattle.cipher.specs.Hash.{padded, paddedAfter, hashedIn, hashOf, plusEach}

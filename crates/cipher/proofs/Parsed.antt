@@ -1,14 +1,14 @@
 -- Laws of octet strings parsed into blocks of 16.
 -- Assumes nothing.
 use mathlib.Core.Path.{_≡_, refl, sym, ap, ap₂, _∙_}
-use mathlib.Core.List.{List, [], _∷_, _++_}
-use Prim.Native.Nat.{ℕ, suc, _+_, _-_, _*_, _/_, _≤_, _<_}
+use mathlib.Core.List.{List, [], _∷_}
+use Prim.Native.Nat.{ℕ, suc, _+_, _-_, _*_, _≤_, _<_}
 use native.Mathlib.Nat.{add-assoc, add-zero}
 use native.Mathlib.Omega.{arith}
 use lib.ListN.{length, drop, length-drop, drop-of-length-le}
 use lib.Seq.{getD-drop, drop-drop}
-use Rattle.octets.specs.Lists.{at, tab}
 use Rattle.octets.proofs.Tabs.{tab-ext, getD-tab}
+use Rattle.octets.specs.Lists.{at, tab}
 use Rattle.cipher.specs.Blocks.{blockFrom, blockCount, blocks}
 
 pub block-at : (d : List ℕ) (i j : ℕ) → j < 16 → at (blockFrom d i) j ≡ at d (i + j)

@@ -8,10 +8,10 @@ use native.Mathlib.Omega.{arith}
 use lib.Bits.{bitXor}
 use lib.ListN.{length, take, drop, length-append, length-drop, take-append-drop}
 use lib.Seq.{take-at, drop-at, length-take-le}
-use Rattle.octets.specs.Lists.{at, tab, eqList}
+use Rattle.octets.proofs.Compared.{same-self, same-equal}
 use Rattle.octets.proofs.Tabs.{getD-tab, tab-ext, tab-at}
 use Rattle.octets.proofs.Xor.{xor-twice}
-use Rattle.octets.proofs.Compared.{same-self, same-equal}
+use Rattle.octets.specs.Lists.{at, tab, eqList}
 use Rattle.cipher.specs.Aes.{addBlocks, addRoundKey, lastRound, cipher, aes128}
 use Rattle.cipher.specs.Blocks.{zeroBlock, over}
 use Rattle.cipher.specs.Ccm.{authData, firstBlock, absorbed, keyStream, streamed, masked, macOf, tagOf, ccmSeal, bodyOf, sealOf, fits, ccmOpen, valid}

@@ -1,14 +1,14 @@
 -- Laws of CCM*'s key stream, laid over a string block by block.
 -- Assumes nothing.
-use mathlib.Core.Path.{_≡_, refl, sym, ap, ap₂, _∙_}
-use mathlib.Core.List.{List, [], _∷_, _++_}
+use mathlib.Core.Path.{_≡_, sym, ap, ap₂, _∙_}
+use mathlib.Core.List.{List, _++_}
 use Prim.Native.Nat.{ℕ, _+_, _-_, _/_, _%_, _<_, _≤_, min}
 use native.Mathlib.Omega.{arith}
 use lib.Bits.{bitXor}
 use lib.ListN.{length, drop, take, length-append}
 use lib.Seq.{paste, take-at, drop-at, drop-drop, getD-take}
+use Rattle.octets.proofs.Tabs.{length-tab, tab-ext, take-tab, paste-tab}
 use Rattle.octets.specs.Lists.{at, tab, onto}
-use Rattle.octets.proofs.Tabs.{length-tab, getD-tab, tab-ext, take-tab, paste-tab}
 use Rattle.cipher.specs.Aes.{addBlocks}
 use Rattle.cipher.specs.Blocks.{blockFrom}
 use Rattle.cipher.specs.Ccm.{keyStream, streamed, masked, macOf, tagOf, ccmSeal}

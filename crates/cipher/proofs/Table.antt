@@ -5,8 +5,8 @@ use mathlib.Core.Bool.{Bool}
 use Prim.Native.Nat.{ℕ, _<_, min}
 use lib.Dec.{T, eqb, eqb→eq, ltb, ltb→lt}
 use lib.ListN.{getD}
-use Rattle.octets.specs.Choice.{both}
 use Rattle.octets.proofs.Tables.{at, both-left, both-right}
+use Rattle.octets.specs.Choice.{both}
 use Rattle.cipher.specs.Field.{mulBits, mul, squares, inverse}
 use Rattle.cipher.specs.Sbox.{sboxTable, sbox, turned, affine, sboxRule}
 

@@ -1,7 +1,6 @@
 -- An answer is known by what it tells: 01's number and values lose nothing, so a contract that speaks of them leaves one answer.
 -- Assumes nothing.
 use mathlib.Core.Path.{_≡_, refl, sym, ap, _∙_}
-use mathlib.Core.Bool.{Bool, true, false}
 use Prim.Native.Nat.{ℕ}
 use lib.Dec.{eqb}
 use Rattle.octets.specs.Choice.{if_then_else_}

@@ -1,7 +1,7 @@
 -- Annex A of source document 002: CCM*, over a block-cipher encryption function E with its key, with L = 2.
 -- n is the nonce N of 15 - L = 13 octets, a the authenticated octets, m the message, M the length of the tag.
 -- Assumes nothing.
-use mathlib.Core.Bool.{Bool, true, false}
+use mathlib.Core.Bool.{Bool}
 use mathlib.Core.List.{List, [], _∷_, _++_}
 use Prim.Native.Nat.{ℕ, _+_, _-_, _*_, _/_, _%_, min}
 use lib.Bits.{bitXor}

@@ -5,13 +5,13 @@ use mathlib.Core.Bool.{Bool, true, false}
 use mathlib.Core.List.{List, [], _∷_, _++_}
 use Prim.Native.Nat.{ℕ, zero, suc, _+_, _<_}
 use native.Mathlib.Omega.{arith}
-use borrow.Author.Tests.{ltb-true, ltb-false}
-use lib.Dec.{ltb}
 use lib.Bits.{bitXor, xor-lt}
+use lib.Dec.{ltb}
 use lib.ListN.{take, drop, replicate}
 use lib.Seq.{getD-drop}
-use Rattle.octets.specs.Lists.{at, tab, Octets}
+use borrow.Author.Tests.{ltb-true, ltb-false}
 use Rattle.octets.proofs.Tabs.{getD-tab, at-tab-out}
+use Rattle.octets.specs.Lists.{at, tab, Octets}
 
 pub xor-octet : {a b : ℕ} → a < 256 → b < 256 → bitXor a b < 256
 xor-octet {a} {b} h k = xor-lt 8 a b h k

@@ -3,17 +3,17 @@
 use mathlib.Core.Path.{_≡_, refl, sym, ap, ap₂, _∙_}
 use mathlib.Core.Bool.{Bool, true, false}
 use mathlib.Core.List.{List, [], _∷_}
-use Prim.Native.Nat.{ℕ, zero, suc, _+_, _<_, _≤_}
+use Prim.Native.Nat.{ℕ, _+_, _<_, _≤_}
 use native.Mathlib.Numerals.{add-one}
-use lib.Bits.{bitXor, bitOr, xor-self, or-zero-r}
-use lib.Dec.{eqb, eqb-refl, T}
-use borrow.Author.Tests.{eqb-true, eq-eqb, ne-eqb}
+use lib.Bits.{bitXor, bitOr, xor-self}
+use lib.Dec.{eqb}
 use lib.ListN.{length, getD, drop, drop-of-length-le}
 use lib.Seq.{drop-cons}
-use Rattle.octets.specs.Choice.{both}
-use Rattle.octets.specs.Lists.{eqList}
+use borrow.Author.Tests.{eqb-true, eq-eqb}
 use Rattle.octets.proofs.Choices.{both-assoc, both-true}
 use Rattle.octets.proofs.Xor.{xor-zero, or-zero}
+use Rattle.octets.specs.Choice.{both}
+use Rattle.octets.specs.Lists.{eqList}
 
 pub same-self : (a : List ℕ) → eqList a a ≡ true
 same-self [] = refl

@@ -1,15 +1,15 @@
 -- A loop that fills a list of n octets from the front with the values of f: what it has done when it reaches place i.
 -- Assumes nothing.
-use mathlib.Core.Path.{_≡_, refl, sym, ap, _∙_}
+use mathlib.Core.Path.{_≡_, sym, _∙_}
 use mathlib.Core.Logic.{⊎-elim}
 use mathlib.Core.List.{List}
-use Prim.Native.Nat.{ℕ, zero, suc, _+_, _≤_, _<_}
+use Prim.Native.Nat.{ℕ, _+_, _≤_, _<_}
 use native.Mathlib.Nat.{not-suc-le-zero, eq-or-lt-of-le, lt-irrefl}
 use native.Mathlib.Omega.{arith}
 use lib.ListN.{length, getD, set, length-set}
 use lib.Seq.{ext-getD, getD-set-same, getD-set-other}
-use Rattle.octets.specs.Lists.{tab}
 use Rattle.octets.proofs.Tabs.{length-tab, getD-tab}
+use Rattle.octets.specs.Lists.{tab}
 
 pub record Filled {A : Type 0} (n : ℕ) (d : A) (f : ℕ → A) (i : ℕ) (t : List A) : Type 0 where
   pub within : i ≤ n

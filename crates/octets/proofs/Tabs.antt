@@ -1,12 +1,12 @@
 -- Laws of `tab`, the list of a function's first values, and of `onto`.
 -- Assumes nothing.
 use mathlib.Core.Path.{_≡_, refl, sym, ap, ap₂, _∙_}
-use mathlib.Core.List.{List, [], _∷_, _++_, append-assoc}
-use Prim.Native.Nat.{ℕ, zero, suc, _+_, _-_, _≤_, _<_, zero-le}
-use native.Mathlib.Nat.{le-of-suc-le-suc, not-suc-le-zero, zero-add, suc-add, add-suc, add-zero}
+use mathlib.Core.List.{List, _∷_, _++_}
+use Prim.Native.Nat.{ℕ, zero, suc, _+_, _-_, _≤_, _<_}
+use native.Mathlib.Nat.{le-of-suc-le-suc, not-suc-le-zero, zero-add, suc-add}
 use native.Mathlib.Omega.{arith}
-use lib.ListN.{length, getD, take, drop, length-append, length-drop, length-take, List·getD-eq-default}
-use lib.Seq.{ext-getD, take-append-seam, drop-append-seam, take-all, drop-drop, getD-append-add, paste, take-at, drop-at}
+use lib.ListN.{length, getD, take, drop, length-append, length-drop, List·getD-eq-default}
+use lib.Seq.{ext-getD, drop-drop, paste, take-at, drop-at}
 use Rattle.octets.specs.Lists.{at, tab, onto}
 
 module _ {A : Type 0} where

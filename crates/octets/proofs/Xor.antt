@@ -1,12 +1,12 @@
 -- The laws of exclusive or that lib.Bits lacks: its grouping, that it undoes itself, and that it is zero only of equals.
 -- Assumes nothing.
 use mathlib.Core.Path.{_≡_, refl, sym, ap, ap₂, _∙_}
-use Prim.Native.Nat.{ℕ, zero, suc, _+_, _*_, _/_, _%_, _<_, _≤_}
-use native.Mathlib.Nat.{mod-lt, div-add-mod', le-of-suc-le-suc, not-suc-le-zero}
+use Prim.Native.Nat.{ℕ, zero, suc, _+_, _*_, _/_, _%_, _<_}
+use native.Mathlib.Nat.{mod-lt, le-of-suc-le-suc, not-suc-le-zero}
 use native.Mathlib.Omega.{arith}
 use lib.Arith.{bin-ind}
+use lib.Bits.{bitXor, bitOr, differ, xor-step, xor-shr, xor-mod, xor-self, xor-zero-l, xor-zero-r, or-add-and, and-le-l, and-le-r}
 use lib.Dec.{lit<}
-use lib.Bits.{bitXor, bitOr, bitAnd, differ, xor-step, xor-shr, xor-mod, xor-self, xor-zero-l, xor-zero-r, or-add-and, and-le-l, and-le-r}
 
 -- what holds of 0 and of 1 holds of a binary digit
 digit : (P : ℕ → Type 0) → P 0 → P 1 → (x : ℕ) → x < 2 → P x

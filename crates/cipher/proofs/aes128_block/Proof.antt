@@ -1,5 +1,5 @@
-use Rattle.cipher.specs.Aes.{aes128}
 use borrow.Author.Needs.{needs}
+use Rattle.cipher.specs.Aes.{aes128}
 use Rattle.cipher.proofs.aes128_block.Statement.{statement}
 use Rattle.cipher.proofs.aes128_block.Tie as tie
 

@@ -1,8 +1,8 @@
+use borrow.Author.Needs.{needs}
 use borrow.Author.Tests.{le-leb}
 use Rattle.octets.proofs.Choices.{tests}
 use Rattle.cipher.specs.Answers.{hashing}
 use Rattle.cipher.specs.Hash.{hashOf, padded}
-use borrow.Author.Needs.{needs}
 use Rattle.cipher.proofs.hash.Statement.{statement}
 use Rattle.cipher.proofs.hash.Tie as tie
 

@@ -1,7 +1,7 @@
+use borrow.Author.Needs.{needs}
 use borrow.Author.Tests.{le-leb}
 use Rattle.octets.proofs.Choices.{tests}
 use Rattle.cipher.specs.Answers.{keyedHashing}
-use borrow.Author.Needs.{needs}
 use Rattle.cipher.proofs.keyed_hash.Statement.{statement}
 use Rattle.cipher.proofs.keyed_hash.Tie as tie
 

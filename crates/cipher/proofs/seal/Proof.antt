@@ -1,10 +1,10 @@
 use mathlib.Core.Path.{sym, _∙_}
 use native.Mathlib.Omega.{arith}
+use borrow.Author.Needs.{needs}
 use borrow.Author.Tests.{le-leb, lt-leb, not-true, not-false}
 use Rattle.cipher.specs.Answers.{sealing}
 use Rattle.cipher.specs.Aes.{aes128}
 use Rattle.cipher.proofs.Opens.{tag-most}
-use borrow.Author.Needs.{needs}
 use Rattle.cipher.proofs.seal.Statement.{statement}
 use Rattle.cipher.proofs.seal.Tie as tie
 

@@ -3,8 +3,8 @@ use Prim.Native.Nat.{_+_, _-_, _≤_}
 use native.Mathlib.Omega.{arith}
 use lib.ListN.{length, length-set}
 use lib.Seq.{paste, paste-zero}
-use Rattle.octets.proofs.Pasted.{paste-more, pasted-fits, pasted-not}
 use borrow.Author.Needs.{needs}
+use Rattle.octets.proofs.Pasted.{paste-more, pasted-fits, pasted-not}
 use Rattle.octets.proofs.paste_at.Statement.{statement}
 use Rattle.octets.proofs.paste_at.Tie as tie
 

@@ -3,11 +3,11 @@ use Prim.Native.Nat.{_≤_, _-_}
 use native.Mathlib.Omega.{arith}
 use lib.Dec.{eqb}
 use lib.ListN.{length, drop}
+use borrow.Author.Needs.{needs}
+use Rattle.octets.proofs.Compared.{same-length, same-more, same-done}
+use Rattle.octets.proofs.same.Statement.{statement}
 use Rattle.octets.specs.Choice.{both}
 use Rattle.octets.specs.Lists.{eqList}
-use Rattle.octets.proofs.Compared.{same-length, same-more, same-done}
-use borrow.Author.Needs.{needs}
-use Rattle.octets.proofs.same.Statement.{statement}
 use Rattle.octets.proofs.same.Tie as tie
 
 abbrev Inv-loop : tie.InvT-loop

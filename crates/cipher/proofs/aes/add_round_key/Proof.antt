@@ -1,5 +1,5 @@
-use Rattle.cipher.specs.Aes.{addRoundKey}
 use borrow.Author.Needs.{needs}
+use Rattle.cipher.specs.Aes.{addRoundKey}
 use Rattle.cipher.proofs.aes.add_round_key.Statement.{statement}
 use Rattle.cipher.proofs.aes.add_round_key.Tie as tie
 

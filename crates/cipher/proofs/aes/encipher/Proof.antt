@@ -1,9 +1,9 @@
 use mathlib.Core.Path.{_≡_, refl}
-use native.Mathlib.Omega.{arith}
 use Prim.Native.Nat.{_-_, _≤_}
+use native.Mathlib.Omega.{arith}
+use borrow.Author.Needs.{needs}
 use Rattle.cipher.specs.Aes.{rounds, cipher}
 use Rattle.cipher.proofs.Rounds.{rounds-more}
-use borrow.Author.Needs.{needs}
 use Rattle.cipher.proofs.aes.encipher.Statement.{statement}
 use Rattle.cipher.proofs.aes.encipher.Tie as tie
 

@@ -1,11 +1,10 @@
-use Rattle.octets.proofs.Filled.{one}
 use mathlib.Core.Path.{_≡_, refl}
 use mathlib.Core.List.{[]}
 use Prim.Native.Nat.{_+_, _-_, _≤_}
-use Rattle.octets.proofs.Filled.{Filled, more, all}
+use borrow.Author.Needs.{needs}
+use Rattle.octets.proofs.Filled.{one, Filled, more, all}
 use Rattle.cipher.specs.Aes.{keyAt, rcon, keyExpansion}
 use Rattle.cipher.proofs.Rounds.{key-more, rcon-more}
-use borrow.Author.Needs.{needs}
 use Rattle.cipher.proofs.aes.expand.Statement.{statement}
 use Rattle.cipher.proofs.aes.expand.Tie as tie
 

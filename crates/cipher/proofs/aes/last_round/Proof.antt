@@ -1,5 +1,5 @@
-use Rattle.cipher.specs.Aes.{lastRound}
 use borrow.Author.Needs.{needs}
+use Rattle.cipher.specs.Aes.{lastRound}
 use Rattle.cipher.proofs.aes.last_round.Statement.{statement}
 use Rattle.cipher.proofs.aes.last_round.Tie as tie
 

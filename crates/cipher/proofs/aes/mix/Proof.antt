@@ -1,5 +1,5 @@
-use Rattle.cipher.specs.Aes.{mixed}
 use borrow.Author.Needs.{needs}
+use Rattle.cipher.specs.Aes.{mixed}
 use Rattle.cipher.proofs.aes.mix.Statement.{statement}
 use Rattle.cipher.proofs.aes.mix.Tie as tie
 

@@ -1,9 +1,9 @@
 use mathlib.Core.Path.{refl}
 use Prim.Native.Nat.{_-_}
-use Rattle.octets.specs.Lists.{at}
-use Rattle.octets.proofs.Filled.{Filled, none, more, all}
-use Rattle.cipher.specs.Aes.{mixed, below, mixColumns}
 use borrow.Author.Needs.{needs}
+use Rattle.octets.proofs.Filled.{Filled, none, more, all}
+use Rattle.octets.specs.Lists.{at}
+use Rattle.cipher.specs.Aes.{mixed, below, mixColumns}
 use Rattle.cipher.proofs.aes.mix_columns.Statement.{statement}
 use Rattle.cipher.proofs.aes.mix_columns.Tie as tie
 

@@ -1,5 +1,5 @@
-use Rattle.cipher.specs.Aes.{nextKey}
 use borrow.Author.Needs.{needs}
+use Rattle.cipher.specs.Aes.{nextKey}
 use Rattle.cipher.proofs.aes.next_key.Statement.{statement}
 use Rattle.cipher.proofs.aes.next_key.Tie as tie
 

@@ -1,5 +1,5 @@
-use Rattle.cipher.specs.Aes.{roundOf}
 use borrow.Author.Needs.{needs}
+use Rattle.cipher.specs.Aes.{roundOf}
 use Rattle.cipher.proofs.aes.round.Statement.{statement}
 use Rattle.cipher.proofs.aes.round.Tie as tie
 

@@ -1,7 +1,7 @@
 use mathlib.Core.Path.{ap}
 use lib.ListN.{getD}
-use Rattle.cipher.specs.Sbox.{sbox}
 use borrow.Author.Needs.{needs}
+use Rattle.cipher.specs.Sbox.{sbox}
 use Rattle.cipher.proofs.aes.sub_byte.Statement.{statement}
 use Rattle.cipher.proofs.aes.sub_byte.Tie as tie
 

@@ -1,10 +1,10 @@
 use mathlib.Core.Path.{refl}
 use Prim.Native.Nat.{_-_}
-use Rattle.octets.specs.Lists.{at}
+use borrow.Author.Needs.{needs}
 use Rattle.octets.proofs.Filled.{Filled, none, more, all}
+use Rattle.octets.specs.Lists.{at}
 use Rattle.cipher.specs.Sbox.{sbox}
 use Rattle.cipher.specs.Aes.{subBytes}
-use borrow.Author.Needs.{needs}
 use Rattle.cipher.proofs.aes.sub_bytes.Statement.{statement}
 use Rattle.cipher.proofs.aes.sub_bytes.Tie as tie
 

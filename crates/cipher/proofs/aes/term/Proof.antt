@@ -1,6 +1,6 @@
 use Prim.Native.Nat.{_%_, _≤_}
-use native.Mathlib.Omega.{arith}
 use native.Mathlib.Nat.{mul-le-mul-right}
+use native.Mathlib.Omega.{arith}
 use borrow.Author.Needs.{needs}
 use Rattle.cipher.proofs.aes.term.Statement.{statement}
 use Rattle.cipher.proofs.aes.term.Tie as tie

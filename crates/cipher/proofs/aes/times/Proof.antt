@@ -1,10 +1,10 @@
-use native.Mathlib.Omega.{arith}
 use mathlib.Core.Path.{_≡_, sym, ap, _∙_}
 use Prim.Native.Nat.{_-_, _≤_}
+use native.Mathlib.Omega.{arith}
 use lib.Bits.{bitXor, xor-zero-r, xor-zero-l}
+use borrow.Author.Needs.{needs}
 use Rattle.cipher.specs.Field.{mul, mulBits}
 use Rattle.cipher.proofs.Rounds.{product-more}
-use borrow.Author.Needs.{needs}
 use Rattle.cipher.proofs.aes.times.Statement.{statement}
 use Rattle.cipher.proofs.aes.times.Tie as tie
 

@@ -1,6 +1,6 @@
 use lib.Bits.{xor-zero-r}
-use Rattle.cipher.specs.Aes.{turnedWord}
 use borrow.Author.Needs.{needs}
+use Rattle.cipher.specs.Aes.{turnedWord}
 use Rattle.cipher.proofs.aes.turned_word.Statement.{statement}
 use Rattle.cipher.proofs.aes.turned_word.Tie as tie
 

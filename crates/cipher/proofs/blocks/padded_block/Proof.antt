@@ -1,9 +1,9 @@
 use mathlib.Core.Path.{refl}
 use Prim.Native.Nat.{_-_, _+_}
-use Rattle.octets.specs.Lists.{at}
-use Rattle.octets.proofs.Filled.{Filled, none, more, all}
-use Rattle.cipher.specs.Blocks.{blockFrom}
 use borrow.Author.Needs.{needs}
+use Rattle.octets.proofs.Filled.{Filled, none, more, all}
+use Rattle.octets.specs.Lists.{at}
+use Rattle.cipher.specs.Blocks.{blockFrom}
 use Rattle.cipher.proofs.blocks.padded_block.Statement.{statement}
 use Rattle.cipher.proofs.blocks.padded_block.Tie as tie
 

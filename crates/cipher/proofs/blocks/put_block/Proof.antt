@@ -1,7 +1,7 @@
 use native.Mathlib.Omega.{arith}
 use lib.ListN.{length-take}
-use Rattle.octets.proofs.Pasted.{pasted-whole, pasted-part}
 use borrow.Author.Needs.{needs}
+use Rattle.octets.proofs.Pasted.{pasted-whole, pasted-part}
 use Rattle.cipher.proofs.blocks.put_block.Statement.{statement}
 use Rattle.cipher.proofs.blocks.put_block.Tie as tie
 

@@ -1,5 +1,5 @@
-use Rattle.cipher.specs.Ccm.{absorbed}
 use borrow.Author.Needs.{needs}
+use Rattle.cipher.specs.Ccm.{absorbed}
 use Rattle.cipher.proofs.ccm.absorb.Statement.{statement}
 use Rattle.cipher.proofs.ccm.absorb.Tie as tie
 

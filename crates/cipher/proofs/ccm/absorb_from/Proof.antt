@@ -1,11 +1,11 @@
 use mathlib.Core.Path.{_≡_, refl, sym, ap, _∙_}
 use Prim.Native.Nat.{_+_, _-_, _≤_}
 use lib.ListN.{length, drop}
+use borrow.Author.Needs.{needs}
 use Rattle.cipher.specs.Aes.{cipher}
 use Rattle.cipher.specs.Blocks.{blocks, over}
 use Rattle.cipher.specs.Ccm.{absorbed}
 use Rattle.cipher.proofs.Chains.{over-next, over-end}
-use borrow.Author.Needs.{needs}
 use Rattle.cipher.proofs.ccm.absorb_from.Statement.{statement}
 use Rattle.cipher.proofs.ccm.absorb_from.Tie as tie
 

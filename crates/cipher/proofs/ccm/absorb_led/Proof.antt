@@ -1,9 +1,9 @@
 use mathlib.Core.Path.{sym}
 use native.Mathlib.Omega.{arith}
+use borrow.Author.Needs.{needs}
 use Rattle.cipher.specs.Aes.{cipher}
 use Rattle.cipher.specs.Ccm.{absorbed}
 use Rattle.cipher.proofs.Chains.{over-empty, led-by}
-use borrow.Author.Needs.{needs}
 use Rattle.cipher.proofs.ccm.absorb_led.Statement.{statement}
 use Rattle.cipher.proofs.ccm.absorb_led.Tie as tie
 

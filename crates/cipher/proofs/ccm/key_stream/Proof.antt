@@ -1,5 +1,5 @@
-use Rattle.cipher.specs.Ccm.{keyStream}
 use borrow.Author.Needs.{needs}
+use Rattle.cipher.specs.Ccm.{keyStream}
 use Rattle.cipher.proofs.ccm.key_stream.Statement.{statement}
 use Rattle.cipher.proofs.ccm.key_stream.Tie as tie
 

@@ -1,6 +1,6 @@
-use Rattle.cipher.proofs.Chains.{mac-of-calls}
-use Rattle.cipher.specs.Aes.{cipher}
 use borrow.Author.Needs.{needs}
+use Rattle.cipher.specs.Aes.{cipher}
+use Rattle.cipher.proofs.Chains.{mac-of-calls}
 use Rattle.cipher.proofs.ccm.mac_of.Statement.{statement}
 use Rattle.cipher.proofs.ccm.mac_of.Tie as tie
 

@@ -1,11 +1,10 @@
-use lib.ListN.{replicate}
 use mathlib.Core.Path.{refl, _∙_}
 use native.Mathlib.Omega.{arith}
+use lib.ListN.{replicate, length-take}
+use borrow.Author.Needs.{needs}
 use borrow.Author.Tests.{not-true, not-false}
-use lib.ListN.{length-take}
 use Rattle.cipher.specs.Aes.{cipher}
 use Rattle.cipher.proofs.Opens.{fits-by, opened-false, opened-true}
-use borrow.Author.Needs.{needs}
 use Rattle.cipher.proofs.ccm.open_with.Statement.{statement}
 use Rattle.cipher.proofs.ccm.open_with.Tie as tie
 

@@ -1,6 +1,6 @@
+use borrow.Author.Needs.{needs}
 use Rattle.cipher.specs.Aes.{cipher}
 use Rattle.cipher.proofs.Streams.{seal-by}
-use borrow.Author.Needs.{needs}
 use Rattle.cipher.proofs.ccm.seal_with.Statement.{statement}
 use Rattle.cipher.proofs.ccm.seal_with.Tie as tie
 

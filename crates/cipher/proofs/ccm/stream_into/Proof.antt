@@ -1,11 +1,10 @@
-use Rattle.cipher.proofs.Streams.{turn, upTo-none}
 use mathlib.Core.Path.{_≡_, refl, ap, _∙_}
 use Prim.Native.Nat.{_+_, _-_, _%_, _≤_, min}
 use native.Mathlib.Omega.{arith}
 use lib.ListN.{length}
-use Rattle.cipher.specs.Aes.{cipher}
-use Rattle.cipher.proofs.Streams.{upTo, upTo-end}
 use borrow.Author.Needs.{needs}
+use Rattle.cipher.specs.Aes.{cipher}
+use Rattle.cipher.proofs.Streams.{turn, upTo-none, upTo, upTo-end}
 use Rattle.cipher.proofs.ccm.stream_into.Statement.{statement}
 use Rattle.cipher.proofs.ccm.stream_into.Tie as tie
 

@@ -1,5 +1,5 @@
-use Rattle.cipher.proofs.Pads.{hash-behind}
 use borrow.Author.Needs.{needs}
+use Rattle.cipher.proofs.Pads.{hash-behind}
 use Rattle.cipher.proofs.mmo.hash_behind.Statement.{statement}
 use Rattle.cipher.proofs.mmo.hash_behind.Tie as tie
 

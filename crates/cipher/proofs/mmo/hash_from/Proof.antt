@@ -1,13 +1,12 @@
-use mathlib.Core.Path.{ap₂}
-use mathlib.Core.Path.{_≡_, refl, sym, ap, _∙_}
+use mathlib.Core.Path.{ap₂, _≡_, refl, sym, ap, _∙_}
 use Prim.Native.Nat.{_+_, _-_, _*_, _/_, _≤_}
 use native.Mathlib.Omega.{arith}
 use lib.ListN.{length, drop}
+use borrow.Author.Needs.{needs}
 use Rattle.cipher.specs.Blocks.{blocks, over}
 use Rattle.cipher.specs.Hash.{paddedAfter, hashedIn}
 use Rattle.cipher.proofs.Chains.{over-next, over-end}
 use Rattle.cipher.proofs.Pads.{pad-length}
-use borrow.Author.Needs.{needs}
 use Rattle.cipher.proofs.mmo.hash_from.Statement.{statement}
 use Rattle.cipher.proofs.mmo.hash_from.Tie as tie
 

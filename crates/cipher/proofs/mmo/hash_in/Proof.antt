@@ -1,6 +1,6 @@
+use borrow.Author.Needs.{needs}
 use Rattle.cipher.specs.Aes.{aes128}
 use Rattle.cipher.specs.Hash.{hashedIn}
-use borrow.Author.Needs.{needs}
 use Rattle.cipher.proofs.mmo.hash_in.Statement.{statement}
 use Rattle.cipher.proofs.mmo.hash_in.Tie as tie
 

@@ -1,5 +1,5 @@
-use Rattle.cipher.specs.Hash.{keyedHash}
 use borrow.Author.Needs.{needs}
+use Rattle.cipher.specs.Hash.{keyedHash}
 use Rattle.cipher.proofs.mmo.keyed_hash_of.Statement.{statement}
 use Rattle.cipher.proofs.mmo.keyed_hash_of.Tie as tie
 

@@ -1,10 +1,10 @@
 use mathlib.Core.Path.{refl}
 use Prim.Native.Nat.{_-_, _+_}
-use Rattle.octets.specs.Lists.{at}
+use borrow.Author.Needs.{needs}
 use Rattle.octets.proofs.Filled.{Filled, none, more, all}
+use Rattle.octets.specs.Lists.{at}
 use Rattle.cipher.specs.Blocks.{blockFrom}
 use Rattle.cipher.specs.Hash.{paddedAfter}
-use borrow.Author.Needs.{needs}
 use Rattle.cipher.proofs.mmo.padded_block_from.Statement.{statement}
 use Rattle.cipher.proofs.mmo.padded_block_from.Tie as tie
 

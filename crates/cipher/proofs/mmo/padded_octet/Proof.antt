@@ -1,9 +1,9 @@
 use mathlib.Core.Path.{sym, ap, _∙_}
 use native.Mathlib.Omega.{arith}
+use borrow.Author.Needs.{needs}
 use Rattle.octets.specs.Lists.{at}
 use Rattle.cipher.specs.Hash.{paddedAfter}
 use Rattle.cipher.proofs.Pads.{pad-plain, pad-mark, pad-high, pad-low, pad-else}
-use borrow.Author.Needs.{needs}
 use Rattle.cipher.proofs.mmo.padded_octet.Statement.{statement}
 use Rattle.cipher.proofs.mmo.padded_octet.Tie as tie
 

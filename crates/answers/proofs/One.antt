@@ -1,0 +1,50 @@
+-- A refusal is known by its number, and an outcome by what it tells: a contract that speaks of 01's numbers leaves one answer.
+-- Assumes nothing.
+use mathlib.Core.Path.{_≡_, refl, sym, ap, _∙_}
+use mathlib.Core.List.{List, [], _∷_}
+use Prim.Native.Nat.{ℕ}
+use lib.ListN.{getD}
+use Rattle.answers.specs.declared.Refusal.{Refusal}
+use Rattle.answers.specs.declared.Refusal.the-variants.{Room, Long, Short, Form, Security, NoKey, Top, Stale, Forged, Full, Command, Protection, Absent, Argument}
+use Rattle.answers.specs.declared.Outcome.{Outcome}
+use Rattle.answers.specs.declared.Outcome.the-variants.{Done, Refused}
+use Rattle.answers.specs.Numbers.{numberOf, Told, done, refused, told}
+
+-- 01's table, read by the number; place 0 has none
+table : List Refusal
+table = Room ∷ Room ∷ Long ∷ Short ∷ Form ∷ Security ∷ NoKey ∷ Top ∷ Stale ∷ Forged ∷ Full ∷ Command ∷ Protection ∷ Absent ∷ Argument ∷ []
+
+pub refusalOf : ℕ → Refusal
+refusalOf n = getD table n Room
+
+pub refusal-back : (r : Refusal) → refusalOf (numberOf r) ≡ r
+unfolding refusalOf table
+refusal-back Room = refl
+refusal-back Long = refl
+refusal-back Short = refl
+refusal-back Form = refl
+refusal-back Security = refl
+refusal-back NoKey = refl
+refusal-back Top = refl
+refusal-back Stale = refl
+refusal-back Forged = refl
+refusal-back Full = refl
+refusal-back Command = refl
+refusal-back Protection = refl
+refusal-back Absent = refl
+refusal-back Argument = refl
+
+pub number-one : (r s : Refusal) → numberOf r ≡ numberOf s → r ≡ s
+number-one r s e = sym (refusal-back r) ∙ ap refusalOf e ∙ refusal-back s
+
+outcomeOf : Told → Outcome
+outcomeOf done = Done
+outcomeOf (refused n) = Refused (refusalOf n)
+
+outcome-back : (o : Outcome) → outcomeOf (told o) ≡ o
+unfolding outcomeOf
+outcome-back Done = refl
+outcome-back (Refused r) = ap Refused (refusal-back r)
+
+pub told-one : (o p : Outcome) → told o ≡ told p → o ≡ p
+told-one o p e = sym (outcome-back o) ∙ ap outcomeOf e ∙ outcome-back p

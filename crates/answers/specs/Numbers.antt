@@ -1,0 +1,32 @@
+-- Document 01's table of refusals: the number of each; and what an outcome tells, in these numbers.
+-- Assumes nothing.
+use Prim.Native.Nat.{ℕ}
+use Rattle.answers.specs.declared.Refusal.{Refusal}
+use Rattle.answers.specs.declared.Refusal.the-variants.{Room, Long, Short, Form, Security, NoKey, Top, Stale, Forged, Full, Command, Protection, Absent, Argument}
+use Rattle.answers.specs.declared.Outcome.{Outcome}
+use Rattle.answers.specs.declared.Outcome.the-variants.{Done, Refused}
+
+abbrev pub numberOf : Refusal → ℕ
+numberOf Room = 1
+numberOf Long = 2
+numberOf Short = 3
+numberOf Form = 4
+numberOf Security = 5
+numberOf NoKey = 6
+numberOf Top = 7
+numberOf Stale = 8
+numberOf Forged = 9
+numberOf Full = 10
+numberOf Command = 11
+numberOf Protection = 12
+numberOf Absent = 13
+numberOf Argument = 14
+
+-- what a request that answers no value tells
+pub data Told : Type 0 where
+  done : Told
+  refused : ℕ → Told
+
+abbrev pub told : Outcome → Told
+told Done = done
+told (Refused r) = refused (numberOf r)

@@ -1,0 +1,55 @@
+// The refusals and the protections of document 01, each with its number there.
+ghost use mathlib.Core.Path.{_≡_};
+ghost use Rattle.answers.specs.Numbers.{numberOf};
+
+// The fourteen refusals, in the order of 01's table.
+pub enum Refusal {
+    Room,
+    Long,
+    Short,
+    Form,
+    Security,
+    NoKey,
+    Top,
+    Stale,
+    Forged,
+    Full,
+    Command,
+    Protection,
+    Absent,
+    Argument,
+}
+
+// What protected a frame: nothing, or a key, named by its identifier.
+pub enum Guard {
+    Clear,
+    Under(u8),
+}
+
+// A request that answers no value: it was done, or refused.
+pub enum Outcome {
+    Done,
+    Refused(Refusal),
+}
+
+// The refusal's number in 01's table.
+pub fn number(r: Refusal) -> u8
+    ensures { λ n. ⌜ n ≡ numberOf r ⌝ }
+{
+    match r {
+        Refusal::Room => 1,
+        Refusal::Long => 2,
+        Refusal::Short => 3,
+        Refusal::Form => 4,
+        Refusal::Security => 5,
+        Refusal::NoKey => 6,
+        Refusal::Top => 7,
+        Refusal::Stale => 8,
+        Refusal::Forged => 9,
+        Refusal::Full => 10,
+        Refusal::Command => 11,
+        Refusal::Protection => 12,
+        Refusal::Absent => 13,
+        Refusal::Argument => 14,
+    }
+}

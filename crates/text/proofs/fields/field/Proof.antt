@@ -1,0 +1,36 @@
+use borrow.Author.Needs.{needs}
+use Rattle.text.proofs.Parted.{field-is}
+use Rattle.text.proofs.fields.field.Statement.{statement}
+use Rattle.text.proofs.fields.field.Tie as tie
+
+behind-requires : tie.Need-behind-requires
+behind-requires c κs = search needs
+
+tab-from-requires : tie.Need-tab-from-requires
+tab-from-requires c κs = search needs
+
+sub-result : tie.Need-sub-result
+sub-result c = search needs
+
+part-result-start : tie.Need-part-result-start
+part-result-start c = search needs
+
+part-result-end : tie.Need-part-result-end
+part-result-end c = search needs
+
+returns : tie.Need-returns
+returns c = let x = c .before .before .before .before .args in
+    let from = c .before .before .behind in
+    let end = c .before .tab-from in
+    field-is (x .line .now) (x .k) (from .result) (end .result) (from .ensures .1) (end .ensures .1)
+
+pub field-spec : {M : Type 1} → statement M
+field-spec =
+    tie.close
+    (tie.spec
+    behind-requires
+    tab-from-requires
+    sub-result
+    part-result-start
+    part-result-end
+    returns)

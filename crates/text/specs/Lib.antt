@@ -1,0 +1,5 @@
+pub mod Cursor
+pub mod Digits
+pub mod Fields
+pub mod Hex
+pub mod Decimal
