@@ -1,20 +1,41 @@
 -- What the frame work cites of the callable routines' outcomes: when they succeed, how long what they make is.
 -- Assumes nothing.
-use mathlib.Core.Path.{_≡_, refl, ap, _∙_}
-use mathlib.Core.Bool.{true}
+use mathlib.Core.Path.{_≡_, refl, sym, ap, _∙_}
+use mathlib.Core.Bool.{Bool, true, false}
 use mathlib.Core.List.{List, [], _∷_}
 use Prim.Native.Nat.{ℕ, _+_, _-_, _≤_}
 use native.Mathlib.Omega.{arith}
 use lib.ListN.{length}
+use lib.Seq.{length-take-le}
 use borrow.Author.Tests.{le-leb}
+use Rattle.octets.specs.Choice.{if_then_else_}
 use Rattle.octets.specs.Lists.{onto}
 use Rattle.cipher.specs.Aes.{addBlocks, aes128}
 use Rattle.cipher.specs.Blocks.{zeroBlock, blocks, over}
-use Rattle.cipher.specs.Ccm.{ccmSeal, ccmOpen}
+use Rattle.cipher.specs.Ccm.{streamed, bodyOf, fits, ccmSeal, ccmOpen, valid, invalid}
 use Rattle.cipher.specs.Hash.{hashedIn, hashOf, keyedHash, padded}
 use Rattle.cipher.specs.Answers.{gave, made, most, tagLength, sealing, opening, openedOnto, hashing, keyedHashing}
 use Rattle.cipher.proofs.Opens.{tag-most}
+use Rattle.cipher.proofs.Streams.{streamed-length}
 use Rattle.cipher.proofs.RoundTrip.{aes-blocky, open-seal, seal-length}
+
+-- the tag of document 01 has 4 octets
+pub tag-four : tagLength 4 ≡ true
+unfolding tagLength
+tag-four = refl
+
+-- a message that opened has all octets but the tag's
+pub valid-length : (E : List ℕ → List ℕ) (M : ℕ) (n a c m : List ℕ) → M ≤ length c → ccmOpen E M n a c ≡ valid m → length m ≡ length c - M
+unfolding ccmOpen
+valid-length E M n a c m h e = go (fits E M n a c) e
+  where
+    p : List ℕ
+    p = streamed E n (bodyOf M c)
+    long : length (streamed E n (bodyOf M c)) ≡ length c - M
+    long = streamed-length E n (bodyOf M c) ∙ length-take-le (length c - M) c (omega arith)
+    go : (t : Bool) → (if t then valid p else invalid) ≡ valid m → length m ≡ length c - M
+    go true q = let r : p ≡ m = cc in ap length (sym r) ∙ long
+    go false q = let z : _≡_ {A = ℕ} 0 1 = cc in absurd (omega arith)
 
 module _ (M : ℕ) (k n a : List ℕ) (t : tagLength M ≡ true) (ha : length a ≤ most) where
   -- sealing with room

@@ -1,0 +1,4 @@
+pub mod Found
+pub mod Cleared
+pub mod Leaves
+pub mod Untouched

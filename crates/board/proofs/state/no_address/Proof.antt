@@ -1,0 +1,15 @@
+use Rattle.octets.proofs.Choices.{tests}
+use Rattle.board.specs.State.{noAddress}
+use Rattle.board.proofs.state.no_address.Statement.{statement}
+use Rattle.board.proofs.state.no_address.Tie as tie
+
+returns : tie.Need-returns
+unfolding noAddress
+returns c = search tests
+
+returns-2 : tie.Need-returns-2
+unfolding noAddress
+returns-2 c = search tests
+
+pub no-address-spec : {M : Type 1} → statement M
+no-address-spec = tie.close (tie.spec returns returns-2)

@@ -1,0 +1,62 @@
+// The board: its state by value, the two lent lists of heard senders, and the requests that change
+// keys.
+mod keys;
+mod partners;
+mod places;
+mod rows;
+mod state;
+
+use answers::Outcome;
+pub use keys::install;
+pub use keys::slot_of;
+pub use keys::switch;
+pub use partners::add_link;
+pub use partners::link_of;
+pub use partners::remove_link;
+pub use rows::find_row;
+pub use rows::forget;
+pub use rows::lists_fit;
+pub use rows::put_row;
+pub use state::make;
+pub use state::no_address;
+
+// The lowest place that was looked for.
+pub enum Place {
+    At(usize),
+    Absent,
+}
+
+// A network key and its sequence number.
+pub struct Slot {
+    pub present: bool,
+    pub seq: u8,
+    pub key: [u8; 16],
+}
+
+// A partner's link key; floor is the least counter still accepted under it.
+pub struct Link {
+    pub present: bool,
+    pub partner: u64,
+    pub key: [u8; 16],
+    pub floor: u32,
+}
+
+pub enum Active {
+    Nobody,
+    Slot(usize),
+}
+
+pub struct Board {
+    pub own: u64,
+    pub outgoing: u32,
+    pub aps: u8,
+    pub slots: [Slot; 2],
+    pub active: Active,
+    pub links: [Link; 8],
+}
+
+// A request's answer, and the board that it leaves.
+pub struct After {
+    pub answer: Outcome,
+    pub board: Board,
+}

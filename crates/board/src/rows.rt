@@ -1,0 +1,121 @@
+// The two lent lists: searched, changed in one row, freed.
+use crate::Place;
+use answers::Outcome;
+use answers::Refusal;
+ghost use mathlib.Core.Path.{_≡_};
+ghost use Prim.Native.Nat.{_+_, _-_, _≤_, min};
+ghost use lib.ListN.{length, set};
+ghost use Rattle.answers.specs.Numbers.{told};
+ghost use Rattle.board.specs.Rows.{half, listsFit, findRow, freed};
+ghost use Rattle.board.specs.Requests.{freeing};
+ghost use Rattle.board.specs.Requests.{forget as Requests·forget};
+
+// Whether both lists have 64 rows.
+pub fn lists_fit(addrs: &[u64], floors: &[u32]) -> bool
+    ensures { λ r. ⌜ r ≡ listsFit half (now (addrs .entry)) (now (floors .entry)) ⌝ }
+{
+    if addrs.len() != 64 {
+        return false;
+    }
+    floors.len() == 64
+}
+
+// The lowest of the n rows from place from on, so far as the list has them, with address a.
+pub fn find_row(addrs: &[u64], from: usize, n: usize, a: u64) -> Place
+    ensures { λ r. ⌜ r ≡ findRow (now (addrs .entry)) from n a ⌝ }
+{
+    if addrs.len() <= from {
+        return Place::Absent;
+    }
+    let end = from + least(n, addrs.len() - from);
+    let mut i = from;
+    while i < end {
+        if addrs[i] == a {
+            return Place::At(i);
+        }
+        i = i + 1;
+    }
+    Place::Absent
+}
+
+fn least(n: usize, m: usize) -> usize
+    ensures { λ r. ⌜ r ≡ min n m ⌝ }
+{
+    if n < m { n } else { m }
+}
+
+fn put_address(l: &mut [u64], r: usize, a: u64)
+    ensures { λ _. ⌜ now (l .exit) ≡ set (now (l .entry)) r a ⌝ }
+{
+    if r < l.len() {
+        l[r] = a;
+    }
+}
+
+fn put_floor(l: &mut [u32], r: usize, n: u32)
+    ensures { λ _. ⌜ now (l .exit) ≡ set (now (l .entry)) r n ⌝ }
+{
+    if r < l.len() {
+        l[r] = n;
+    }
+}
+
+// Row r gets an address and a floor; a list that has no such row stays.
+pub fn put_row(addrs: &mut [u64], floors: &mut [u32], r: usize, a: u64, floor: u32)
+    ensures { λ _. ⌜ now (addrs .exit) ≡ set (now (addrs .entry)) r a ⌝ }
+    ensures { λ _. ⌜ now (floors .exit) ≡ set (now (floors .entry)) r floor ⌝ }
+{
+    put_address(addrs, r, a);
+    put_floor(floors, r, floor);
+}
+
+fn free_addresses(l: &mut [u64], from: usize, n: usize)
+    requires { ⌜ from + n ≤ length (now l) ⌝ }
+    ensures { λ _. ⌜ now (l .exit) ≡ freed (now (l .entry)) from n ⌝ }
+{
+    for j in 0..n {
+        l[from + j] = 0;
+    }
+}
+
+fn free_floors(l: &mut [u32], from: usize, n: usize)
+    requires { ⌜ from + n ≤ length (now l) ⌝ }
+    ensures { λ _. ⌜ now (l .exit) ≡ freed (now (l .entry)) from n ⌝ }
+{
+    for j in 0..n {
+        l[from + j] = 0;
+    }
+}
+
+// The n rows of a slot from place from on, freed in both lists.
+pub(crate) fn free_rows(addrs: &mut [u64], floors: &mut [u32], from: usize, n: usize)
+    requires { ⌜ (from + n ≤ length (now addrs)) × (from + n ≤ length (now floors)) ⌝ }
+    ensures { λ _. ⌜ now (addrs .exit) ≡ freed (now (addrs .entry)) from n ⌝ }
+    ensures { λ _. ⌜ now (floors .exit) ≡ freed (now (floors .entry)) from n ⌝ }
+{
+    free_addresses(addrs, from, n);
+    free_floors(floors, from, n);
+}
+
+// Forgets a sender of a slot: its row is freed. 1 where the lists are not of 64 rows, 14 for a slot
+// above 1, 13 where the sender is not there.
+pub fn forget(addrs: &mut [u64], floors: &mut [u32], slot: usize, a: u64) -> Outcome
+    ensures { λ r. ⌜ freeing (told r) (now (addrs .exit)) (now (floors .exit)) ≡ Requests·forget half (now (addrs .entry)) (now (floors .entry)) slot a ⌝ }
+{
+    if !lists_fit(addrs, floors) {
+        return Outcome::Refused(Refusal::Room);
+    }
+    if 1 < slot {
+        return Outcome::Refused(Refusal::Argument);
+    }
+    if a == 0 {
+        return Outcome::Refused(Refusal::Absent);
+    }
+    match find_row(addrs, slot * 32, 32, a) {
+        Place::At(r) => {
+            put_row(addrs, floors, r, 0, 0);
+            Outcome::Done
+        }
+        Place::Absent => Outcome::Refused(Refusal::Absent),
+    }
+}

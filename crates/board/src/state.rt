@@ -1,0 +1,109 @@
+// A board made, and one part of it changed.
+use crate::Active;
+use crate::After;
+use crate::Board;
+use crate::Link;
+use crate::Slot;
+use crate::places::did;
+use crate::places::refuse;
+use answers::Refusal;
+ghost use mathlib.Core.Path.{_≡_};
+ghost use Prim.Native.Nat.{_<_};
+ghost use Rattle.answers.specs.Numbers.{told};
+ghost use Rattle.board.specs.State.{noAddress, noSlot, noLink, fresh, withSlot, withActive, withLink};
+ghost use Rattle.board.specs.Requests.{changed};
+ghost use Rattle.board.specs.Requests.{make as Requests·make};
+
+// Whether an address is nobody's: zero or all ones.
+pub fn no_address(a: u64) -> bool
+    ensures { λ r. ⌜ r ≡ noAddress a ⌝ }
+{
+    if a == 0 {
+        return true;
+    }
+    a == 18446744073709551615
+}
+
+pub(crate) fn no_link() -> Link
+    ensures { λ r. ⌜ r ≡ noLink ⌝ }
+{
+    Link {
+        present: false,
+        partner: 0,
+        key: [0u8; 16],
+        floor: 0,
+    }
+}
+
+fn fresh_board(own: u64) -> Board
+    ensures { λ r. ⌜ r ≡ fresh own ⌝ }
+{
+    let slot = Slot {
+        present: false,
+        seq: 0,
+        key: [0u8; 16],
+    };
+    let link = no_link();
+    let slots = [slot; 2];
+    let links = [link; 8];
+    Board {
+        own,
+        outgoing: 0,
+        aps: 0,
+        slots,
+        active: Active::Nobody,
+        links,
+    }
+}
+
+// A fresh board with that address; zero and all ones are 14, with a board without address.
+pub fn make(own: u64) -> After
+    ensures { λ r. ⌜ changed (told (r .answer)) (r .board) ≡ Requests·make own ⌝ }
+{
+    if no_address(own) {
+        return refuse(Refusal::Argument, fresh_board(0));
+    }
+    did(fresh_board(own))
+}
+
+pub(crate) fn with_slot(b: Board, i: usize, s: Slot) -> Board
+    requires { ⌜ i < 2 ⌝ }
+    ensures { λ r. ⌜ r ≡ withSlot b i s ⌝ }
+{
+    let mut slots = b.slots;
+    slots[i] = s;
+    let active = b.active;
+    let links = b.links;
+    Board {
+        own: b.own,
+        outgoing: b.outgoing,
+        aps: b.aps,
+        slots,
+        active,
+        links,
+    }
+}
+
+pub(crate) fn with_active(b: Board, i: usize) -> Board
+    ensures { λ r. ⌜ r ≡ withActive b i ⌝ }
+{
+    let slots = b.slots;
+    let links = b.links;
+    Board {
+        own: b.own,
+        outgoing: b.outgoing,
+        aps: b.aps,
+        slots,
+        active: Active::Slot(i),
+        links,
+    }
+}
+
+pub(crate) fn with_link(b: Board, i: usize, l: Link) -> Board
+    requires { ⌜ i < 8 ⌝ }
+    ensures { λ r. ⌜ r ≡ withLink b i l ⌝ }
+{
+    let mut next = b;
+    next.links[i] = l;
+    next
+}
