@@ -31,8 +31,10 @@ valid-length E M n a c m h e = go (fits E M n a c) e
   where
     p : List ℕ
     p = streamed E n (bodyOf M c)
+
     long : length (streamed E n (bodyOf M c)) ≡ length c - M
     long = streamed-length E n (bodyOf M c) ∙ length-take-le (length c - M) c (omega arith)
+
     go : (t : Bool) → (if t then valid p else invalid) ≡ valid m → length m ≡ length c - M
     go true q = let r : p ≡ m = cc in ap length (sym r) ∙ long
     go false q = let z : _≡_ {A = ℕ} 0 1 = cc in absurd (omega arith)
