@@ -12,8 +12,9 @@ use Rattle.board.specs.declared.Board.{Board}
 use Rattle.board.specs.declared.Place.{Place}
 use Rattle.board.specs.declared.Place.the-variants.{At, Absent}
 use Rattle.board.specs.Rows.{listsFit}
-use Rattle.board.specs.State.{noAddress, slotAt, linkAt, carries, noLink, withSlot, withLink}
+use Rattle.board.specs.State.{slotAt, linkAt, carries, noLink, withSlot, withLink}
 use Rattle.board.specs.Requests.{Left, Changed, holds, installed, install, slotOf, switchTo, switch, linkOf, freeLink, added, addNew, addTo, addLink, removeAt, removeLink}
+use Rattle.octets.specs.Addresses.{noAddress}
 
 -- a network request's board beside the one before: all but the slots and the active mark
 pub record KeptByNetwork (b c : Board) : Type 0 where

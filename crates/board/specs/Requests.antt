@@ -14,8 +14,9 @@ use Rattle.board.specs.declared.Place.{Place}
 use Rattle.board.specs.declared.Place.the-variants.{At, Absent}
 use Rattle.board.specs.Places.{firstAt}
 use Rattle.board.specs.Rows.{listsFit, findRow, freed}
-use Rattle.board.specs.State.{noAddress, slotAt, linkAt, carries, pairs, noLink, fresh, withSlot, withActive, withLink}
+use Rattle.board.specs.State.{slotAt, linkAt, carries, pairs, noLink, fresh, withSlot, withActive, withLink}
 use Rattle.answers.specs.Numbers.{Told, done, refused}
+use Rattle.octets.specs.Addresses.{noAddress}
 
 -- what a request answers, and the board and the lists that it leaves
 pub record Left : Type 0 where

@@ -14,10 +14,6 @@ use Rattle.board.specs.declared.Link.{Link}
 use Rattle.board.specs.declared.Board.{Board}
 use Rattle.board.specs.declared.Active.the-variants as actives
 
--- "zero or all ones": no partner's and no board's address
-unfoldable pub noAddress : ℕ → Bool
-noAddress a = if eqb a 0 then true else eqb a (2 ^ 64 - 1)
-
 -- ---- reading
 
 abbrev pub slotAt : List Slot → ℕ → Slot

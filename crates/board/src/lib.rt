@@ -18,7 +18,6 @@ pub use rows::forget;
 pub use rows::lists_fit;
 pub use rows::put_row;
 pub use state::make;
-pub use state::no_address;
 
 // The lowest place that was looked for.
 pub enum Place {

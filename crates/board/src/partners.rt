@@ -5,7 +5,6 @@ use crate::Link;
 use crate::Place;
 use crate::places::did;
 use crate::places::refuse;
-use crate::state::no_address;
 use crate::state::no_link;
 use crate::state::with_link;
 use answers::Refusal;
@@ -95,7 +94,7 @@ fn add_again(b: Board, i: usize, a: u64, key: [u8; 16]) -> After
 pub fn add_link(b: Board, a: u64, key: [u8; 16]) -> After
     ensures { λ r. ⌜ changed (told (r .answer)) (r .board) ≡ addLink b a key ⌝ }
 {
-    if no_address(a) {
+    if octets::no_address(a) {
         return refuse(Refusal::Argument, b);
     }
     let links = b.links;

@@ -10,19 +10,9 @@ use answers::Refusal;
 ghost use mathlib.Core.Path.{_≡_};
 ghost use Prim.Native.Nat.{_<_};
 ghost use Rattle.answers.specs.Numbers.{told};
-ghost use Rattle.board.specs.State.{noAddress, noSlot, noLink, fresh, withSlot, withActive, withLink};
+ghost use Rattle.board.specs.State.{noSlot, noLink, fresh, withSlot, withActive, withLink};
 ghost use Rattle.board.specs.Requests.{changed};
 ghost use Rattle.board.specs.Requests.{make as Requests·make};
-
-// Whether an address is nobody's: zero or all ones.
-pub fn no_address(a: u64) -> bool
-    ensures { λ r. ⌜ r ≡ noAddress a ⌝ }
-{
-    if a == 0 {
-        return true;
-    }
-    a == 18446744073709551615
-}
 
 pub(crate) fn no_link() -> Link
     ensures { λ r. ⌜ r ≡ noLink ⌝ }
@@ -60,7 +50,7 @@ fn fresh_board(own: u64) -> Board
 pub fn make(own: u64) -> After
     ensures { λ r. ⌜ changed (told (r .answer)) (r .board) ≡ Requests·make own ⌝ }
 {
-    if no_address(own) {
+    if octets::no_address(own) {
         return refuse(Refusal::Argument, fresh_board(0));
     }
     did(fresh_board(own))

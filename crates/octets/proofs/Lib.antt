@@ -6,3 +6,4 @@ pub mod Compared
 pub mod Tables
 pub mod Pasted
 pub mod AllOctets
+pub mod Numbers

@@ -1,6 +1,8 @@
 // Lists of octets: what every layer above reads and writes.
 ghost use mathlib.Core.Path.{_≡_};
-ghost use Rattle.octets.specs.Lists.{eqList, pasted};
+ghost use Rattle.octets.specs.Lists.{at, eqList, pasted};
+ghost use Rattle.octets.specs.Least.{numberAt};
+ghost use Rattle.octets.specs.Addresses.{noAddress};
 
 // Whether a and b hold the same octets. It looks at all of them, whatever it finds, so that the
 // time it takes tells nothing of where they part.
@@ -30,4 +32,57 @@ pub fn paste_at(out: &mut [u8], i: usize, src: &[u8])
     for j in 0..src.len() {
         out[i + j] = src[j];
     }
+}
+
+// Octet i of s, or 0 past its end.
+pub fn octet(s: &[u8], i: usize) -> u8
+    ensures { λ r. ⌜ r ≡ at (now (s .entry)) i ⌝ }
+{
+    if i < s.len() { s[i] } else { 0 }
+}
+
+// The number in two octets of s from place i on, least octet first; 0 for those past its end.
+pub fn number2(s: &[u8], i: usize) -> u16
+    ensures { λ r. ⌜ r ≡ numberAt 2 (now (s .entry)) i ⌝ }
+{
+    if s.len() <= i {
+        return 0;
+    }
+    let a = octet(s, i) as u16;
+    let b = octet(s, i + 1) as u16;
+    a + 256 * b
+}
+
+// The number in four octets, likewise.
+pub fn number4(s: &[u8], i: usize) -> u32
+    ensures { λ r. ⌜ r ≡ numberAt 4 (now (s .entry)) i ⌝ }
+{
+    if s.len() <= i {
+        return 0;
+    }
+    let a = number2(s, i) as u32;
+    let b = number2(s, i + 2) as u32;
+    a + 65536 * b
+}
+
+// The number in eight octets, likewise.
+pub fn number8(s: &[u8], i: usize) -> u64
+    ensures { λ r. ⌜ r ≡ numberAt 8 (now (s .entry)) i ⌝ }
+{
+    if s.len() <= i {
+        return 0;
+    }
+    let a = number4(s, i) as u64;
+    let b = number4(s, i + 4) as u64;
+    a + 4294967296 * b
+}
+
+// Whether an address is nobody's: zero or all ones.
+pub fn no_address(a: u64) -> bool
+    ensures { λ r. ⌜ r ≡ noAddress a ⌝ }
+{
+    if a == 0 {
+        return true;
+    }
+    a == 18446744073709551615
 }

@@ -1,7 +1,7 @@
 use Rattle.octets.proofs.Choices.{tests}
-use Rattle.board.specs.State.{noAddress}
-use Rattle.board.proofs.state.no_address.Statement.{statement}
-use Rattle.board.proofs.state.no_address.Tie as tie
+use Rattle.octets.specs.Addresses.{noAddress}
+use Rattle.octets.proofs.no_address.Statement.{statement}
+use Rattle.octets.proofs.no_address.Tie as tie
 
 returns : tie.Need-returns
 unfolding noAddress

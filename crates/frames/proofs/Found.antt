@@ -1,0 +1,188 @@
+-- What reading a frame found, where it refused nothing: of a secured frame, and of an unsecured one.
+-- Assumes nothing.
+use mathlib.Core.Path.{_≡_, refl, sym, subst, _∙_}
+use mathlib.Core.Logic.{_⊎_, inl, inr}
+use mathlib.Core.Bool.{Bool, true, false, not}
+use mathlib.Core.List.{List}
+use Prim.Native.Nat.{ℕ, _+_, _/_, _%_, _≤_}
+use native.Mathlib.Omega.{arith}
+use lib.Dec.{eqb, leb, ltb}
+use lib.ListN.{length}
+use borrow.Author.Tests.{ltb-false, eqb-true, eqb-false, not-true, not-false}
+use Rattle.octets.proofs.Choices.{choose}
+use Rattle.octets.specs.Choice.{both}
+use Rattle.octets.specs.Lists.{at}
+use Rattle.frames.specs.declared.Secured.{Secured}
+use Rattle.frames.specs.declared.Layer.{Layer}
+use Rattle.frames.specs.declared.Layer.the-variants.{Network, Aps}
+use Rattle.frames.specs.Security.{tagOctets, identifierOf, extendedOf, auxLength, senderOf}
+use Rattle.frames.specs.Network.{networkBase, networkHeader, networkKeyed}
+use Rattle.frames.specs.Aps.{apsType, delivery, ackFormat, apsHeader, apsKeyed}
+use Rattle.frames.specs.Reading.{Reading, refused, plain, secured, announced, readSecured, readPlain}
+use Rattle.frames.proofs.Controls.{extended-most, aux-numbered, aux-unnumbered}
+use Rattle.frames.proofs.Layers.{leastHeader, controlOf, headerOf, suits, givenTo, reading, readingPlain, opening, sealing, shortIn, formIn, bitIn, headerIn, keyedIn, reading-is, readingPlain-is}
+use Rattle.octets.specs.Addresses.{noAddress}
+
+refused-secured : {A : Type 0} (n : ℕ) (s : Secured) → refused n ≡ secured s → A
+refused-secured n s e = let z : _≡_ {A = ℕ} 0 1 = cc in absurd (omega arith)
+
+refused-plain : {A : Type 0} (n h : ℕ) → refused n ≡ plain h → A
+refused-plain n h e = let z : _≡_ {A = ℕ} 0 1 = cc in absurd (omega arith)
+
+plain-secured : {A : Type 0} (h : ℕ) (s : Secured) → plain h ≡ secured s → A
+plain-secured h s e = let z : _≡_ {A = ℕ} 0 1 = cc in absurd (omega arith)
+
+-- ---- what a control tells
+
+both-parts : (p q : Bool) → both p q ≡ true → (p ≡ true) × (q ≡ true)
+both-parts true q e = (refl, e)
+both-parts false q e = let z : _≡_ {A = ℕ} 0 1 = cc in absurd (omega arith)
+
+-- the auxiliary header's length: a network frame's has sender and key sequence number, an APS frame's may have the sender
+abbrev pub Auxed : Layer → ℕ → Type 0
+Auxed Network n = n ≡ 14
+Auxed Aps n = (n ≡ 5) ⊎ (n ≡ 13)
+
+aux-suited : (l : Layer) (x : ℕ) → suits l x ≡ true → Auxed l (auxLength x)
+unfolding networkKeyed apsKeyed
+aux-suited Network x e =
+    let b = both-parts (eqb (identifierOf x) 1) (eqb (extendedOf x) 1) e in
+    let n = aux-numbered x (eqb-true (identifierOf x) 1 (b .0)) in
+    omega (arith, eqb-true (extendedOf x) 1 (b .1))
+aux-suited Aps x e =
+    let u = aux-unnumbered x (eqb-false (identifierOf x) 1 (not-true _ e)) in
+    choose (λ _. (auxLength x ≡ 5) ⊎ (auxLength x ≡ 13)) (eqb (extendedOf x) 1) true false
+    (λ q. inr (omega (arith, eqb-true (extendedOf x) 1 q)))
+    (λ q. inl (omega (arith, eqb-false (extendedOf x) 1 q, extended-most x)))
+
+header-least : (l : Layer) (f : List ℕ) (c : ℕ) → leastHeader l ≤ headerOf l f c
+unfolding networkHeader networkBase apsHeader
+header-least Network f c = choose (λ n. 8 ≤ n) (eqb (c / 1024 % 2) 1) _ _ (λ _. omega arith) (λ _. omega arith)
+header-least Aps f c =
+    choose (λ n. 2 ≤ n) (eqb (apsType c) 0) _ _
+    (λ _. choose (λ n. 2 ≤ n) (eqb (delivery c) 3) _ _ (λ _. omega arith) (λ _. omega arith))
+    (λ _. choose (λ n. 2 ≤ n) (eqb (apsType c) 1) _ _ (λ _. omega arith)
+    (λ _. choose (λ n. 2 ≤ n) (eqb (ackFormat c) 1) _ _ (λ _. omega arith) (λ _. omega arith)))
+
+-- ---- behind a header of h octets
+
+module _ (t : Bool) (f : List ℕ) (h a : ℕ) where
+  record Behind (s : Secured) : Type 0 where
+    pub suited : t ≡ true
+    pub whole : h + auxLength (at f h) + tagOctets ≤ length f
+    pub someone : noAddress (senderOf f h a) ≡ false
+    pub fields : s ≡ announced f h a
+
+  -- what holds of each way out holds of reading
+  ways : (P : Reading → Type 0) → P (refused 3) → P (refused 5)
+      → (t ≡ true → h + auxLength (at f h) + tagOctets ≤ length f → noAddress (senderOf f h a) ≡ false → P (secured (announced f h a)))
+      → P (readSecured t f h a)
+  unfolding readSecured
+  ways P p q r =
+      choose P (leb (length f) h) _ _ (λ _. p)
+      λ _. choose P (not t) _ _ (λ _. q)
+      λ x. choose P (ltb (length f) (h + auxLength (at f h) + tagOctets)) _ _ (λ _. p)
+      λ y. choose P (noAddress (senderOf f h a)) _ _ (λ _. q)
+      λ z. r (not-false t x) (ltb-false _ _ y) z
+
+  behind : (s : Secured) → readSecured t f h a ≡ secured s → Behind s
+  behind s =
+      ways (λ r. r ≡ secured s → Behind s) (refused-secured 3 s) (refused-secured 5 s)
+      (λ x y z e. record { suited = x; whole = y; someone = z; fields = cc })
+
+  secured-not : (n : ℕ) → readSecured t f h a ≡ plain n → ⊥
+  secured-not n =
+      ways (λ r. r ≡ plain n → ⊥) (refused-plain 3 n) (refused-plain 5 n)
+      (λ _ _ _ e. plain-secured n (announced f h a) (sym e))
+
+module _ (f : List ℕ) (h : ℕ) where
+  plain-not : (s : Secured) → readPlain f h ≡ secured s → ⊥
+  unfolding readPlain
+  plain-not s = choose (λ r. r ≡ secured s → ⊥) (ltb (length f) h) _ _ (λ _ e. refused-secured 3 s e) (λ _ e. plain-secured h s e)
+
+  plain-behind : (n : ℕ) → readPlain f h ≡ plain n → (n ≡ h) × (h ≤ length f)
+  unfolding readPlain
+  plain-behind n =
+      choose (λ r. r ≡ plain n → (n ≡ h) × (h ≤ length f)) (ltb (length f) h) _ _ (λ _ e. refused-plain 3 n e) (λ t e. (cc, ltb-false _ _ t))
+
+-- ---- the whole frame
+
+-- a frame of layer l that was read as secured and announces s; a is the caller's sender address
+pub record SecuredFrame (l : Layer) (f : List ℕ) (a : ℕ) (s : Secured) : Type 0 where
+  pub formed : formIn l f ≡ true
+  pub marked : bitIn l f ≡ true
+  pub suited : suits l (s .control) ≡ true
+  pub head : s .header ≡ headerIn l f
+  pub least : leastHeader l ≤ s .header
+  pub auxed : Auxed l (s .aux)
+  pub whole : s .header + s .aux + tagOctets ≤ length f
+  pub someone : noAddress (s .sender) ≡ false
+  pub fields : s ≡ announced f (s .header) (givenTo l a)
+
+-- a frame of layer l that was read as unsecured, with h octets of header
+pub record PlainFrame (l : Layer) (f : List ℕ) (h : ℕ) : Type 0 where
+  pub formed : formIn l f ≡ true
+  pub unmarked : bitIn l f ≡ false
+  pub head : h ≡ headerIn l f
+  pub least : leastHeader l ≤ h
+  pub within : h ≤ length f
+
+pub secured-frame : (l : Layer) (f : List ℕ) (a : ℕ) (s : Secured) → reading l f a ≡ secured s → SecuredFrame l f a s
+unfolding announced
+secured-frame l f a s e = go (shortIn l f) (formIn l f) (bitIn l f) refl refl (sym (reading-is l f a) ∙ e)
+  where
+    made : formIn l f ≡ true → bitIn l f ≡ true → Behind (keyedIn l f) f (headerIn l f) (givenTo l a) s
+        → SecuredFrame l f a (announced f (headerIn l f) (givenTo l a))
+    made x y b =
+        record {
+          formed = x;
+          marked = y;
+          suited = b .suited;
+          head = refl;
+          least = header-least l f (controlOf l f);
+          auxed = aux-suited l (at f (headerIn l f)) (b .suited);
+          whole = b .whole;
+          someone = b .someone;
+          fields = refl;
+        }
+
+    go : (p q u : Bool) → formIn l f ≡ q → bitIn l f ≡ u → opening p q u (keyedIn l f) f (headerIn l f) (givenTo l a) ≡ secured s
+        → SecuredFrame l f a s
+    go true q u x y e = refused-secured 3 s e
+    go false false u x y e = refused-secured 4 s e
+    go false true true x y e =
+        let b = behind (keyedIn l f) f (headerIn l f) (givenTo l a) s e in
+        subst (SecuredFrame l f a) (sym (b .fields)) (made x y b)
+    go false true false x y e = absurd (plain-not f (headerIn l f) s e)
+
+module _ (l : Layer) (f : List ℕ) (h : ℕ) where
+  unsecured : formIn l f ≡ true → bitIn l f ≡ false → readPlain f (headerIn l f) ≡ plain h → PlainFrame l f h
+  unsecured x y e =
+      let b = plain-behind f (headerIn l f) h e in
+      record {
+        formed = x;
+        unmarked = y;
+        head = b .0;
+        least = omega (arith, header-least l f (controlOf l f), b .0);
+        within = omega (arith, b .0, b .1);
+      }
+
+  pub plain-frame : (a : ℕ) → reading l f a ≡ plain h → PlainFrame l f h
+  plain-frame a e = go (shortIn l f) (formIn l f) (bitIn l f) refl refl (sym (reading-is l f a) ∙ e)
+    where
+      go : (p q u : Bool) → formIn l f ≡ q → bitIn l f ≡ u → opening p q u (keyedIn l f) f (headerIn l f) (givenTo l a) ≡ plain h
+          → PlainFrame l f h
+      go true q u x y e = refused-plain 3 h e
+      go false false u x y e = refused-plain 4 h e
+      go false true true x y e = absurd (secured-not (keyedIn l f) f (headerIn l f) (givenTo l a) h e)
+      go false true false x y e = unsecured x y e
+
+  -- as sealing reads it
+  pub plain-to-seal : readingPlain l f ≡ plain h → PlainFrame l f h
+  plain-to-seal e = go (shortIn l f) (formIn l f) (bitIn l f) refl refl (sym (readingPlain-is l f) ∙ e)
+    where
+      go : (p q u : Bool) → formIn l f ≡ q → bitIn l f ≡ u → sealing p q u f (headerIn l f) ≡ plain h → PlainFrame l f h
+      go true q u x y e = refused-plain 3 h e
+      go false false u x y e = refused-plain 4 h e
+      go false true true x y e = refused-plain 4 h e
+      go false true false x y e = unsecured x y e

@@ -1,0 +1,11 @@
+use mathlib.Core.Path.{refl}
+use Rattle.frames.specs.Aps.{apsKeyed}
+use Rattle.frames.proofs.aps.is_keyed.Statement.{statement}
+use Rattle.frames.proofs.aps.is_keyed.Tie as tie
+
+returns : tie.Need-returns
+unfolding apsKeyed
+returns c = refl
+
+pub is-keyed-spec : {M : Type 1} → statement M
+is-keyed-spec = tie.close (tie.spec returns)

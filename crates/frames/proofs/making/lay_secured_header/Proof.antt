@@ -1,0 +1,28 @@
+use borrow.Author.Needs.{needs}
+use Rattle.frames.specs.Making.{bitValue, raised}
+use Rattle.frames.proofs.Layings.{laid-over}
+use Rattle.frames.proofs.making.lay_secured_header.Statement.{statement}
+use Rattle.frames.proofs.making.lay_secured_header.Tie as tie
+
+place-requires : tie.Need-place-requires
+place-requires c κs = search needs
+
+octet-requires : tie.Need-octet-requires
+octet-requires c κs = search needs
+
+raise-requires : tie.Need-raise-requires
+raise-requires c κs = search needs
+
+lay-requires : tie.Need-lay-requires
+lay-requires c κs = search needs
+
+same-length : tie.Need-same-length
+same-length c = search needs
+
+returns : tie.Need-returns
+returns c = laid-over _ _ _ _ _ _ _ _ (raised (bitValue (c .before .before .before .before .before .before .before .before .before .args .l))) (c .before .before .lay .ensures) (c .before .before .before .before .before .before .place .ensures) (c .before .before .before .raise .ensures) (c .before .before .before .before .octet .ensures)
+
+pub lay-secured-header-spec : {M : Type 1} → statement M
+lay-secured-header-spec =
+    tie.close
+    (tie.spec place-requires octet-requires raise-requires lay-requires same-length returns)

@@ -1,0 +1,12 @@
+use native.Mathlib.Omega.{arith}
+use Rattle.frames.specs.Security.{wireControl}
+use Rattle.frames.proofs.Controls.{identifier-laid}
+use Rattle.frames.proofs.security.wire_control.Statement.{statement}
+use Rattle.frames.proofs.security.wire_control.Tie as tie
+
+returns : tie.Need-returns
+unfolding wireControl
+returns c = identifier-laid (c .args .identifier) (omega arith)
+
+pub wire-control-spec : {M : Type 1} → statement M
+wire-control-spec = tie.close (tie.spec returns)

@@ -1,0 +1,135 @@
+// Frames read in the order in which document 01 judges them, up to where a key is looked for.
+use crate::Read;
+use crate::Secured;
+use crate::aps;
+use crate::network;
+use crate::security;
+use answers::Refusal;
+ghost use mathlib.Core.Path.{_≡_};
+ghost use Prim.Native.Nat.{_≤_, _<_};
+ghost use lib.ListN.{length};
+ghost use Rattle.octets.specs.Lists.{at};
+ghost use Rattle.frames.specs.Security.{auxLength};
+ghost use Rattle.frames.specs.Reading.{toldRead, announced, readSecured, readPlain, readNetwork, readAps, readNetworkPlain, readApsPlain};
+
+// What the auxiliary header behind h octets of header announces.
+fn announce(f: &[u8], h: usize, given: u64) -> Secured
+    requires { ⌜ (h < length (now f)) × (h ≤ 600) ⌝ }
+    ensures { λ r. ⌜ r ≡ announced (now (f .entry)) h given ⌝ }
+{
+    let control = f[h];
+    let aux = security::aux_length(control);
+    let counter = octets::number4(f, h + 1);
+    let sender = security::sender(f, h, given);
+    let sequence = security::sequence(f, h);
+    Secured {
+        header: h,
+        aux,
+        control,
+        counter,
+        sender,
+        sequence,
+    }
+}
+
+// A secured frame behind its header; suits tells whether identifier and nonce bit are the layer's.
+fn secured_behind(suits: bool, f: &[u8], h: usize, given: u64) -> Read
+    requires { ⌜ h ≤ 600 ⌝ }
+    ensures { λ r. ⌜ toldRead r ≡ readSecured suits (now (f .entry)) h given ⌝ }
+{
+    if f.len() <= h {
+        return Read::Refused(Refusal::Short);
+    }
+    if !suits {
+        return Read::Refused(Refusal::Security);
+    }
+    if f.len() < h + security::aux_length(f[h]) + 4 {
+        return Read::Refused(Refusal::Short);
+    }
+    if octets::no_address(security::sender(f, h, given)) {
+        return Read::Refused(Refusal::Security);
+    }
+    Read::Secured(announce(f, h, given))
+}
+
+fn plain_behind(f: &[u8], h: usize) -> Read
+    ensures { λ r. ⌜ toldRead r ≡ readPlain (now (f .entry)) h ⌝ }
+{
+    if f.len() < h {
+        return Read::Refused(Refusal::Short);
+    }
+    Read::Plain(h)
+}
+
+// A network frame that is to be opened.
+pub fn read_network(f: &[u8]) -> Read
+    ensures { λ r. ⌜ toldRead r ≡ readNetwork (now (f .entry)) ⌝ }
+{
+    if f.len() < 2 {
+        return Read::Refused(Refusal::Short);
+    }
+    let c = octets::number2(f, 0);
+    if !network::form(c) {
+        return Read::Refused(Refusal::Form);
+    }
+    let h = network::header_length(f, c);
+    if network::is_secured(c) {
+        let control = octets::octet(f, h);
+        let suits = network::is_keyed(security::identifier(control), security::extended(control));
+        return secured_behind(suits, f, h, 0);
+    }
+    plain_behind(f, h)
+}
+
+// An APS frame that is to be opened; given is its sender where it carries none.
+pub fn read_aps(f: &[u8], given: u64) -> Read
+    ensures { λ r. ⌜ toldRead r ≡ readAps (now (f .entry)) given ⌝ }
+{
+    if f.len() < 1 {
+        return Read::Refused(Refusal::Short);
+    }
+    let c = octets::octet(f, 0);
+    if !aps::form(c) {
+        return Read::Refused(Refusal::Form);
+    }
+    let h = aps::header_length(c);
+    if aps::is_secured(c) {
+        let suits = aps::is_keyed(security::identifier(octets::octet(f, h)));
+        return secured_behind(suits, f, h, given);
+    }
+    plain_behind(f, h)
+}
+
+// A plain network frame that is to be sealed.
+pub fn read_network_plain(f: &[u8]) -> Read
+    ensures { λ r. ⌜ toldRead r ≡ readNetworkPlain (now (f .entry)) ⌝ }
+{
+    if f.len() < 2 {
+        return Read::Refused(Refusal::Short);
+    }
+    let c = octets::number2(f, 0);
+    if !network::form(c) {
+        return Read::Refused(Refusal::Form);
+    }
+    if network::is_secured(c) {
+        return Read::Refused(Refusal::Form);
+    }
+    plain_behind(f, network::header_length(f, c))
+}
+
+// A plain APS frame that is to be sealed.
+pub fn read_aps_plain(f: &[u8]) -> Read
+    ensures { λ r. ⌜ toldRead r ≡ readApsPlain (now (f .entry)) ⌝ }
+{
+    if f.len() < 1 {
+        return Read::Refused(Refusal::Short);
+    }
+    let c = octets::octet(f, 0);
+    if !aps::form(c) {
+        return Read::Refused(Refusal::Form);
+    }
+    if aps::is_secured(c) {
+        return Read::Refused(Refusal::Form);
+    }
+    plain_behind(f, aps::header_length(c))
+}

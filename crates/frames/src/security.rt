@@ -1,0 +1,130 @@
+// The security control, the auxiliary header and the nonce.
+ghost use mathlib.Core.Path.{_≡_};
+ghost use Prim.Native.Nat.{_%_, _≤_, _<_};
+ghost use lib.ListN.{length};
+ghost use Rattle.octets.specs.Lists.{at};
+ghost use Rattle.frames.specs.Security.{identifierOf, extendedOf, withLevel, wireControl, auxLength, senderOf, sequenceOf, nonceOf, auxiliary};
+
+pub(crate) fn identifier(control: u8) -> u8
+    ensures { λ r. ⌜ r ≡ identifierOf control ⌝ }
+{
+    (control >> 3) & 3
+}
+
+pub(crate) fn extended(control: u8) -> u8
+    ensures { λ r. ⌜ r ≡ extendedOf control ⌝ }
+{
+    (control >> 5) & 1
+}
+
+pub(crate) fn with_level(control: u8) -> u8
+    ensures { λ r. ⌜ r ≡ withLevel control ⌝ }
+{
+    (control & 0xf8) | 5
+}
+
+// Level 0, an identifier of two bits, extended nonce.
+fn wire_control(identifier: u8) -> u8
+    requires { ⌜ identifier < 4 ⌝ }
+    ensures { λ r. ⌜ r ≡ wireControl identifier ⌝ }
+{
+    (identifier << 3) | 0x20
+}
+
+pub(crate) fn aux_length(control: u8) -> usize
+    ensures { λ r. ⌜ (r ≡ auxLength control) × (r ≤ 14) ⌝ }
+{
+    let long = extended(control) as usize;
+    if identifier(control) == 1 {
+        return 6 + 8 * long;
+    }
+    5 + 8 * long
+}
+
+pub(crate) fn sender(f: &[u8], h: usize, given: u64) -> u64
+    requires { ⌜ h < length (now f) ⌝ }
+    ensures { λ r. ⌜ r ≡ senderOf (now (f .entry)) h given ⌝ }
+{
+    if extended(f[h]) == 1 {
+        return octets::number8(f, h + 5);
+    }
+    given
+}
+
+pub(crate) fn sequence(f: &[u8], h: usize) -> u8
+    requires { ⌜ h < length (now f) ⌝ }
+    ensures { λ r. ⌜ r ≡ sequenceOf (now (f .entry)) h ⌝ }
+{
+    let control = f[h];
+    if identifier(control) == 1 {
+        let long = extended(control) as usize;
+        return octets::octet(f, h + 5 + 8 * long);
+    }
+    0
+}
+
+// The nonce of CCM*, its control with level 5.
+pub fn nonce(sender: u64, counter: u32, control: u8) -> [u8; 13]
+    ensures { λ r. ⌜ r ≡ nonceOf sender counter control ⌝ }
+{
+    let s1 = sender / 256;
+    let s2 = s1 / 256;
+    let s3 = s2 / 256;
+    let s4 = s3 / 256;
+    let s5 = s4 / 256;
+    let s6 = s5 / 256;
+    let s7 = s6 / 256;
+    let c1 = counter / 256;
+    let c2 = c1 / 256;
+    let c3 = c2 / 256;
+    let last = with_level(control);
+    [
+        (sender % 256) as u8,
+        (s1 % 256) as u8,
+        (s2 % 256) as u8,
+        (s3 % 256) as u8,
+        (s4 % 256) as u8,
+        (s5 % 256) as u8,
+        (s6 % 256) as u8,
+        (s7 % 256) as u8,
+        (counter % 256) as u8,
+        (c1 % 256) as u8,
+        (c2 % 256) as u8,
+        (c3 % 256) as u8,
+        last,
+    ]
+}
+
+// The auxiliary header as it is sent under a key identifier, of which only the two lowest bits
+// count. The last octet is the key sequence number, which only identifier 1 sends.
+pub fn auxiliary_header(identifier: u8, counter: u32, sender: u64, sequence: u8) -> [u8; 14]
+    ensures { λ r. ⌜ r ≡ auxiliary (identifier % 4) counter sender sequence ⌝ }
+{
+    let first = wire_control(identifier % 4);
+    let c1 = counter / 256;
+    let c2 = c1 / 256;
+    let c3 = c2 / 256;
+    let s1 = sender / 256;
+    let s2 = s1 / 256;
+    let s3 = s2 / 256;
+    let s4 = s3 / 256;
+    let s5 = s4 / 256;
+    let s6 = s5 / 256;
+    let s7 = s6 / 256;
+    [
+        first,
+        (counter % 256) as u8,
+        (c1 % 256) as u8,
+        (c2 % 256) as u8,
+        (c3 % 256) as u8,
+        (sender % 256) as u8,
+        (s1 % 256) as u8,
+        (s2 % 256) as u8,
+        (s3 % 256) as u8,
+        (s4 % 256) as u8,
+        (s5 % 256) as u8,
+        (s6 % 256) as u8,
+        (s7 % 256) as u8,
+        sequence,
+    ]
+}
