@@ -1,0 +1,82 @@
+-- Document 01, "The auxiliary header and the nonce" and "Opening and sealing": what both layers do with a frame once they
+-- have its key. "L is 2, the tag M is 4 octets".
+-- Assumes nothing.
+use mathlib.Core.Bool.{Bool, true, false}
+use mathlib.Core.List.{List, _++_}
+use Prim.Native.Nat.{ℕ, _+_}
+use lib.Dec.{leb}
+use lib.ListN.{length, drop}
+use Rattle.octets.specs.Choice.{if_then_else_, both}
+use Rattle.octets.specs.Lists.{onto}
+use Rattle.seals.specs.declared.Unsealed.{Unsealed}
+use Rattle.seals.specs.declared.Unsealed.the-variants.{Plain, Forged}
+use Rattle.cipher.specs.Aes.{aes128}
+use Rattle.cipher.specs.Ccm.{ccmOpen, Opened, valid, invalid}
+use Rattle.frames.specs.declared.Layer.{Layer}
+use Rattle.frames.specs.declared.Secured.{Secured}
+use Rattle.frames.specs.Security.{tagOctets, nonceOf, authenticated}
+use Rattle.frames.specs.Making.{plainHeader}
+
+-- ---- opening
+
+-- "Authenticated: frame header as sent, then the auxiliary header with level 5"
+abbrev pub authenticatedOf : List ℕ → Secured → List ℕ
+authenticatedOf f s = authenticated f (s .header) (s .header + s .aux)
+
+-- what stands behind both headers
+abbrev pub bodyOf : List ℕ → Secured → List ℕ
+bodyOf f s = drop (s .header + s .aux) f
+
+abbrev pub nonceFor : Secured → List ℕ
+nonceFor s = nonceOf (s .sender) (s .counter) (s .control)
+
+unfoldable pub messageOf : List ℕ → List ℕ → Secured → Opened
+messageOf k f s = ccmOpen (aes128 k) tagOctets (nonceFor s) (authenticatedOf f s) (bodyOf f s)
+
+abbrev pub isValid : Opened → Bool
+isValid (valid m) = true
+isValid invalid = false
+
+-- whether the tag of a secured frame fits a key
+unfoldable pub genuine : List ℕ → List ℕ → Secured → Bool
+genuine k f s = isValid (messageOf k f s)
+
+-- "the plain frame (security bit cleared, auxiliary header and tag gone)"
+unfoldable pub plainFrame : Layer → List ℕ → Secured → List ℕ → List ℕ
+plainFrame l f s m = plainHeader l f (s .header) ++ m
+
+-- ---- what the routines tell and leave
+
+pub data Told : Type 0 where
+  made : ℕ → Told
+  none : Told
+
+abbrev pub toldUnsealed : Unsealed → Told
+toldUnsealed (Plain n) = made n
+toldUnsealed Forged = none
+
+pub record Outcome : Type 0 where
+  pub answer : Told
+  pub out : List ℕ
+
+abbrev pub gave : Told → List ℕ → Outcome
+gave t o = record { answer = t; out = o }
+
+-- the longest frame, and so the room that every output has
+abbrev pub longest : ℕ
+longest = 116
+
+-- a frame that has what is announced of it, both headers and the tag, and a header that has the security bit
+unfoldable pub sound : List ℕ → Secured → Bool
+sound f s = both (leb 2 (s .header)) (both (leb (s .header + s .aux + tagOctets) (length f)) (leb (length f) longest))
+
+abbrev pub unsealedOnto : Layer → List ℕ → Secured → List ℕ → Opened → Outcome
+unsealedOnto l f s o (valid m) = gave (made (s .header + length m)) (onto (plainFrame l f s m) o)
+unsealedOnto l f s o invalid = gave none o
+
+unfoldable pub unsealing : List ℕ → Layer → List ℕ → Secured → List ℕ → Outcome
+unsealing k l f s o =
+    if both (sound f s) (leb longest (length o)) then unsealedOnto l f s o (messageOf k f s) else gave none o
+
+unfoldable pub looking : List ℕ → List ℕ → Secured → Bool
+looking k f s = both (sound f s) (genuine k f s)
