@@ -78,7 +78,7 @@ module _ (k : List ℕ) (l : Layer) (f : List ℕ) (s : Secured) (o : List ℕ) 
       (omega (arith, length-drop both-headers f)) (omega (arith, length-drop both-headers f))
       (omega (arith, length-drop both-headers f, length-drop (s .header) o))
 
-  unsealing-is : unsealing k l f s o ≡ unsealedOnto l f s o (messageOf k f s)
+  pub unsealing-is : unsealing k l f s o ≡ unsealedOnto l f s o (messageOf k f s)
   unfolding unsealing
   unsealing-is = simp (tells-sound f s t, le-leb _ _ room)
 
