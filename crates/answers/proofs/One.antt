@@ -8,7 +8,11 @@ use Rattle.answers.specs.declared.Refusal.{Refusal}
 use Rattle.answers.specs.declared.Refusal.the-variants.{Room, Long, Short, Form, Security, NoKey, Top, Stale, Forged, Full, Command, Protection, Absent, Argument}
 use Rattle.answers.specs.declared.Outcome.{Outcome}
 use Rattle.answers.specs.declared.Outcome.the-variants.{Done, Refused}
-use Rattle.answers.specs.Numbers.{numberOf, Told, done, refused, told}
+use Rattle.answers.specs.declared.Opened.{Opened}
+use Rattle.answers.specs.declared.Sealed.{Sealed}
+use Rattle.answers.specs.Numbers.{numberOf, Told, done, refused, told, FrameTold, opened, sealed, turnedDown, toldOpened, toldSealed}
+use Rattle.answers.specs.declared.Opened.the-variants as opens
+use Rattle.answers.specs.declared.Sealed.the-variants as seals
 
 -- 01's table, read by the number; place 0 has none
 table : List Refusal
@@ -48,3 +52,29 @@ outcome-back (Refused r) = ap Refused (refusal-back r)
 
 pub told-one : (o p : Outcome) → told o ≡ told p → o ≡ p
 told-one o p e = sym (outcome-back o) ∙ ap outcomeOf e ∙ outcome-back p
+
+openedOf : FrameTold → Opened
+openedOf (opened n a g) = opens.Frame n a g
+openedOf (sealed n) = opens.Refused Room
+openedOf (turnedDown n) = opens.Refused (refusalOf n)
+
+opened-back : (o : Opened) → openedOf (toldOpened o) ≡ o
+unfolding openedOf
+opened-back (opens.Frame n a g) = refl
+opened-back (opens.Refused r) = ap opens.Refused (refusal-back r)
+
+pub opened-one : (o p : Opened) → toldOpened o ≡ toldOpened p → o ≡ p
+opened-one o p e = sym (opened-back o) ∙ ap openedOf e ∙ opened-back p
+
+sealedOf : FrameTold → Sealed
+sealedOf (opened n a g) = seals.Refused Room
+sealedOf (sealed n) = seals.Frame n
+sealedOf (turnedDown n) = seals.Refused (refusalOf n)
+
+sealed-back : (o : Sealed) → sealedOf (toldSealed o) ≡ o
+unfolding sealedOf
+sealed-back (seals.Frame n) = refl
+sealed-back (seals.Refused r) = ap seals.Refused (refusal-back r)
+
+pub sealed-one : (o p : Sealed) → toldSealed o ≡ toldSealed p → o ≡ p
+sealed-one o p e = sym (sealed-back o) ∙ ap sealedOf e ∙ sealed-back p

@@ -1,10 +1,15 @@
--- Document 01's table of refusals: the number of each; and what an outcome tells, in these numbers.
+-- Document 01's table of refusals: the number of each; and what an answer tells, in these numbers.
 -- Assumes nothing.
 use Prim.Native.Nat.{ℕ}
 use Rattle.answers.specs.declared.Refusal.{Refusal}
 use Rattle.answers.specs.declared.Refusal.the-variants.{Room, Long, Short, Form, Security, NoKey, Top, Stale, Forged, Full, Command, Protection, Absent, Argument}
 use Rattle.answers.specs.declared.Outcome.{Outcome}
 use Rattle.answers.specs.declared.Outcome.the-variants.{Done, Refused}
+use Rattle.answers.specs.declared.Guard.{Guard}
+use Rattle.answers.specs.declared.Opened.{Opened}
+use Rattle.answers.specs.declared.Sealed.{Sealed}
+use Rattle.answers.specs.declared.Opened.the-variants as opens
+use Rattle.answers.specs.declared.Sealed.the-variants as seals
 
 abbrev pub numberOf : Refusal → ℕ
 numberOf Room = 1
@@ -30,3 +35,18 @@ pub data Told : Type 0 where
 abbrev pub told : Outcome → Told
 told Done = done
 told (Refused r) = refused (numberOf r)
+
+-- what opening and sealing tell: length, sender and protection of a frame that opened, the length of one that was sealed,
+-- or a refusal's number
+pub data FrameTold : Type 0 where
+  opened : ℕ → ℕ → Guard → FrameTold
+  sealed : ℕ → FrameTold
+  turnedDown : ℕ → FrameTold
+
+abbrev pub toldOpened : Opened → FrameTold
+toldOpened (opens.Frame n a g) = opened n a g
+toldOpened (opens.Refused r) = turnedDown (numberOf r)
+
+abbrev pub toldSealed : Sealed → FrameTold
+toldSealed (seals.Frame n) = sealed n
+toldSealed (seals.Refused r) = turnedDown (numberOf r)

@@ -32,6 +32,18 @@ pub enum Outcome {
     Refused(Refusal),
 }
 
+// A frame that opened, with its length, its sender (0 if unsecured) and what protected it.
+pub enum Opened {
+    Frame(usize, u64, Guard),
+    Refused(Refusal),
+}
+
+// A frame that was sealed, with its length.
+pub enum Sealed {
+    Frame(usize),
+    Refused(Refusal),
+}
+
 // The refusal's number in 01's table.
 pub fn number(r: Refusal) -> u8
     ensures { λ n. ⌜ n ≡ numberOf r ⌝ }

@@ -8,8 +8,9 @@ use native.Mathlib.Omega.{arith}
 use lib.ListN.{length, set}
 use Rattle.octets.specs.Choice.{both}
 use Rattle.octets.specs.Lists.{onto}
-use Rattle.network.specs.Opening.{Told, opened, refused, gave, admitted, turnedAway}
+use Rattle.network.specs.Opening.{gave, admitted, turnedAway}
 use Rattle.answers.specs.declared.Guard.the-variants.{Under}
+use Rattle.answers.specs.Numbers.{FrameTold, opened, turnedDown}
 use Rattle.cipher.specs.Ccm.{Opened, valid, invalid}
 use Rattle.frames.specs.declared.Layer.the-variants.{Network}
 use Rattle.frames.specs.declared.Secured.{Secured}
@@ -50,22 +51,22 @@ module _ (k f : List ℕ) (s : Secured) (al fl o : List ℕ) (t : sound f s ≡ 
 
   -- the tag does not fit
   pub admit-forged : (w : Unsealed) (q : Place) (p : List ℕ) → w ≡ Forged → Seals·gave (toldUnsealed w) p ≡ unsealing k Network f s o
-      → gave (refused 9) al fl p ≡ admitted f s al fl o (messageOf k f s) q
+      → gave (turnedDown 9) al fl p ≡ admitted f s al fl o (messageOf k f s) q
   unfolding admitted
   admit-forged w q p ew e =
       go (messageOf k f s) (ap (λ (x : Unsealed). Seals·gave (toldUnsealed x) p) (sym ew) ∙ by-message w p e)
     where
-      go : (m : Opened) → Seals·gave none p ≡ unsealedOnto Network f s o m → gave (refused 9) al fl p ≡ admitted f s al fl o m q
+      go : (m : Opened) → Seals·gave none p ≡ unsealedOnto Network f s o m → gave (turnedDown 9) al fl p ≡ admitted f s al fl o m q
       go (valid m) g =
           let a : none ≡ made (s .header + length m) = ap (λ (x : Seals·Outcome). x .answer) g in
           let z : _≡_ {A = ℕ} 0 1 = cc in
           absurd (omega arith)
-      go invalid g = ap (gave (refused 9) al fl) (ap (λ (x : Seals·Outcome). x .out) g)
+      go invalid g = ap (gave (turnedDown 9) al fl) (ap (λ (x : Seals·Outcome). x .out) g)
 
   -- there is no row
-  pub away : (w : Told) → w ≡ turnedAway (looking k f s) → gave w al fl o ≡ admitted f s al fl o (messageOf k f s) Absent
+  pub away : (w : FrameTold) → w ≡ turnedAway (looking k f s) → gave w al fl o ≡ admitted f s al fl o (messageOf k f s) Absent
   unfolding looking genuine admitted
-  away w e = ap (λ (x : Told). gave x al fl o) (e ∙ ap (λ (b : Bool). turnedAway (both b (isValid (messageOf k f s)))) t) ∙ go (messageOf k f s)
+  away w e = ap (λ (x : FrameTold). gave x al fl o) (e ∙ ap (λ (b : Bool). turnedAway (both b (isValid (messageOf k f s)))) t) ∙ go (messageOf k f s)
     where
       go : (m : Opened) → gave (turnedAway (isValid m)) al fl o ≡ admitted f s al fl o m Absent
       go (valid m) = refl

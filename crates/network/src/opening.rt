@@ -1,6 +1,6 @@
 // Opening, in document 01's order of judgement.
-use crate::Answer;
 use answers::Guard;
+use answers::Opened;
 use answers::Refusal;
 use board::Board;
 use board::Place;
@@ -13,10 +13,11 @@ ghost use mathlib.Core.Path.{_≡_};
 ghost use mathlib.Core.Bool.{true};
 ghost use Prim.Native.Nat.{_≤_, _<_};
 ghost use lib.ListN.{length, getD};
+ghost use Rattle.answers.specs.Numbers.{toldOpened};
 ghost use Rattle.board.specs.Rows.{half};
 ghost use Rattle.board.specs.Requests.{slotOf};
 ghost use Rattle.seals.specs.Sealing.{messageOf, sound, looking};
-ghost use Rattle.network.specs.Opening.{told, gave, floorOf, rowFor, admitted, turnedAway, openedUnder, openedKeyed, openNetwork};
+ghost use Rattle.network.specs.Opening.{gave, floorOf, rowFor, admitted, turnedAway, openedUnder, openedKeyed, openNetwork, lookedKeyed, lookNetwork};
 
 fn floor_at(floors: &[u32], r: usize) -> u32
     ensures { λ n. ⌜ n ≡ getD (now (floors .entry)) r 0 ⌝ }
@@ -55,27 +56,27 @@ fn admit(
     addrs: &mut [u64],
     floors: &mut [u32],
     out: &mut [u8],
-) -> Answer
+) -> Opened
     requires { ⌜ (sound (now f) s ≡ true) × ((116 ≤ length (now out)) × (s .counter < 4294967295)) ⌝ }
-    ensures { λ w. ⌜ gave (told w) (now (addrs .exit)) (now (floors .exit)) (now (out .exit)) ≡ admitted (now (f .entry)) s (now (addrs .entry)) (now (floors .entry)) (now (out .entry)) (messageOf key (now (f .entry)) s) (Place.At r) ⌝ }
+    ensures { λ w. ⌜ gave (toldOpened w) (now (addrs .exit)) (now (floors .exit)) (now (out .exit)) ≡ admitted (now (f .entry)) s (now (addrs .entry)) (now (floors .entry)) (now (out .entry)) (messageOf key (now (f .entry)) s) (Place.At r) ⌝ }
 {
     match seals::unseal(key, Layer::Network, f, s, out) {
         Unsealed::Plain(n) => {
             board::put_row(addrs, floors, r, s.sender, s.counter + 1);
-            Answer::Frame(n, s.sender, Guard::Under(1))
+            Opened::Frame(n, s.sender, Guard::Under(1))
         }
-        Unsealed::Forged => Answer::Refused(Refusal::Forged),
+        Unsealed::Forged => Opened::Refused(Refusal::Forged),
     }
 }
 
 // A frame for which there is no row: 9 comes before 10.
-fn turn_away(key: [u8; 16], f: &[u8], s: Secured) -> Answer
-    ensures { λ w. ⌜ told w ≡ turnedAway (looking key (now (f .entry)) s) ⌝ }
+fn turn_away(key: [u8; 16], f: &[u8], s: Secured) -> Opened
+    ensures { λ w. ⌜ toldOpened w ≡ turnedAway (looking key (now (f .entry)) s) ⌝ }
 {
     if seals::look(key, f, s) {
-        return Answer::Refused(Refusal::Full);
+        return Opened::Refused(Refusal::Full);
     }
-    Answer::Refused(Refusal::Forged)
+    Opened::Refused(Refusal::Forged)
 }
 
 fn open_under(
@@ -86,15 +87,15 @@ fn open_under(
     addrs: &mut [u64],
     floors: &mut [u32],
     out: &mut [u8],
-) -> Answer
+) -> Opened
     requires { ⌜ (sound (now f) s ≡ true) × ((116 ≤ length (now out)) × (i < 2)) ⌝ }
-    ensures { λ w. ⌜ gave (told w) (now (addrs .exit)) (now (floors .exit)) (now (out .exit)) ≡ openedUnder half key i (now (f .entry)) s (now (addrs .entry)) (now (floors .entry)) (now (out .entry)) ⌝ }
+    ensures { λ w. ⌜ gave (toldOpened w) (now (addrs .exit)) (now (floors .exit)) (now (out .exit)) ≡ openedUnder half key i (now (f .entry)) s (now (addrs .entry)) (now (floors .entry)) (now (out .entry)) ⌝ }
 {
     if s.counter == 4294967295 {
-        return Answer::Refused(Refusal::Top);
+        return Opened::Refused(Refusal::Top);
     }
     if s.counter < floor_of(addrs, floors, i, s.sender) {
-        return Answer::Refused(Refusal::Stale);
+        return Opened::Refused(Refusal::Stale);
     }
     match row_for(addrs, i, s.sender) {
         Place::At(r) => admit(key, r, f, s, addrs, floors, out),
@@ -109,9 +110,9 @@ fn open_keyed(
     addrs: &mut [u64],
     floors: &mut [u32],
     out: &mut [u8],
-) -> Answer
+) -> Opened
     requires { ⌜ (sound (now f) s ≡ true) × (116 ≤ length (now out)) ⌝ }
-    ensures { λ w. ⌜ gave (told w) (now (addrs .exit)) (now (floors .exit)) (now (out .exit)) ≡ openedKeyed half slots (now (f .entry)) s (now (addrs .entry)) (now (floors .entry)) (now (out .entry)) (slotOf slots (s .sequence)) ⌝ }
+    ensures { λ w. ⌜ gave (toldOpened w) (now (addrs .exit)) (now (floors .exit)) (now (out .exit)) ≡ openedKeyed half slots (now (f .entry)) s (now (addrs .entry)) (now (floors .entry)) (now (out .entry)) (slotOf slots (s .sequence)) ⌝ }
 {
     match board::slot_of(slots, s.sequence) {
         Place::At(i) => {
@@ -119,7 +120,7 @@ fn open_keyed(
             let key = slot.key;
             open_under(key, i, f, s, addrs, floors, out)
         }
-        Place::Absent => Answer::Refused(Refusal::NoKey),
+        Place::Absent => Opened::Refused(Refusal::NoKey),
     }
 }
 
@@ -131,27 +132,55 @@ pub fn open_frame(
     addrs: &mut [u64],
     floors: &mut [u32],
     out: &mut [u8],
-) -> Answer
-    ensures { λ w. ⌜ gave (told w) (now (addrs .exit)) (now (floors .exit)) (now (out .exit)) ≡ openNetwork half b (now (f .entry)) (now (addrs .entry)) (now (floors .entry)) (now (out .entry)) ⌝ }
+) -> Opened
+    ensures { λ w. ⌜ gave (toldOpened w) (now (addrs .exit)) (now (floors .exit)) (now (out .exit)) ≡ openNetwork half b (now (f .entry)) (now (addrs .entry)) (now (floors .entry)) (now (out .entry)) ⌝ }
 {
     if out.len() < 116 {
-        return Answer::Refused(Refusal::Room);
+        return Opened::Refused(Refusal::Room);
     }
     if !board::lists_fit(addrs, floors) {
-        return Answer::Refused(Refusal::Room);
+        return Opened::Refused(Refusal::Room);
     }
     if 116 < f.len() {
-        return Answer::Refused(Refusal::Long);
+        return Opened::Refused(Refusal::Long);
     }
     match frames::read_network(f) {
-        Read::Refused(r) => Answer::Refused(r),
+        Read::Refused(r) => Opened::Refused(r),
         Read::Plain(_) => {
             octets::paste_at(out, 0, f);
-            Answer::Frame(f.len(), 0, Guard::Clear)
+            Opened::Frame(f.len(), 0, Guard::Clear)
         }
         Read::Secured(s) => {
             let slots = b.slots;
             open_keyed(slots, f, s, addrs, floors, out)
         }
+    }
+}
+
+// Whether the tag of a secured frame fits the key that is found for it, whatever its counter. It
+// changes nothing, and a frame that is not secured or finds no key fits none.
+pub fn look_frame(b: Board, f: &[u8]) -> bool
+    ensures { λ r. ⌜ r ≡ lookNetwork b (now (f .entry)) ⌝ }
+{
+    match frames::read_network(f) {
+        Read::Refused(_) => false,
+        Read::Plain(_) => false,
+        Read::Secured(s) => {
+            let slots = b.slots;
+            look_keyed(slots, f, s)
+        }
+    }
+}
+
+fn look_keyed(slots: [Slot; 2], f: &[u8], s: Secured) -> bool
+    ensures { λ r. ⌜ r ≡ lookedKeyed slots (now (f .entry)) s (slotOf slots (s .sequence)) ⌝ }
+{
+    match board::slot_of(slots, s.sequence) {
+        Place::At(i) => {
+            let slot = slots[i];
+            let key = slot.key;
+            seals::look(key, f, s)
+        }
+        Place::Absent => false,
     }
 }

@@ -4,7 +4,8 @@ use lib.ListN.{length}
 use borrow.Author.Needs.{needs}
 use borrow.Author.Tests.{lt-ltb, le-ltb, lt-leb, le-leb, not-true, not-false}
 use Rattle.octets.proofs.Pasted.{pasted-onto}
-use Rattle.network.specs.Opening.{gave, opened, openNetwork, openedRead}
+use Rattle.network.specs.Opening.{gave, openNetwork, openedRead}
+use Rattle.answers.specs.Numbers.{opened}
 use Rattle.answers.specs.declared.Guard.the-variants.{Clear}
 use Rattle.frames.specs.Reading.{toldRead}
 use Rattle.network.proofs.Admission.{read-sound}
