@@ -15,6 +15,7 @@ pub use reading::read_aps_plain;
 pub use reading::read_network;
 pub use reading::read_network_plain;
 pub use security::auxiliary_header;
+pub use security::identifier;
 pub use security::nonce;
 
 pub enum Layer {

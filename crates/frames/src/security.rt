@@ -5,7 +5,8 @@ ghost use lib.ListN.{length};
 ghost use Rattle.octets.specs.Lists.{at};
 ghost use Rattle.frames.specs.Security.{identifierOf, extendedOf, withLevel, wireControl, auxLength, senderOf, sequenceOf, nonceOf, auxiliary};
 
-pub(crate) fn identifier(control: u8) -> u8
+// The key identifier that a security control names.
+pub fn identifier(control: u8) -> u8
     ensures { λ r. ⌜ r ≡ identifierOf control ⌝ }
 {
     (control >> 3) & 3

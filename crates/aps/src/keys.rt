@@ -1,0 +1,27 @@
+// The three keys of a link entry.
+ghost use mathlib.Core.Path.{_≡_};
+ghost use mathlib.Core.List.{_∷_, []};
+ghost use Rattle.cipher.specs.Hash.{keyedHash};
+ghost use Rattle.aps.specs.Keys.{keyFor};
+
+// The key that an identifier of 0, 2 or 3 names.
+pub(crate) fn key_for(key: [u8; 16], identifier: u8) -> [u8; 16]
+    ensures { λ r. ⌜ r ≡ keyFor key identifier ⌝ }
+{
+    if identifier == 0 {
+        return key;
+    }
+    if identifier == 2 {
+        return hashed(key, 0x00);
+    }
+    hashed(key, 0x02)
+}
+
+fn hashed(key: [u8; 16], x: u8) -> [u8; 16]
+    ensures { λ r. ⌜ r ≡ keyedHash key (x ∷ []) ⌝ }
+{
+    let one = [x];
+    let h = cipher::keyed_hash(key, &one);
+    let octets = h.octets;
+    octets
+}

@@ -1,0 +1,51 @@
+-- What unsealing tells of the message: the law that both layers' opening goes by.
+-- Assumes nothing.
+use mathlib.Core.Path.{_≡_, refl, sym, ap, _∙_}
+use mathlib.Core.Bool.{true}
+use mathlib.Core.List.{List}
+use Prim.Native.Nat.{ℕ, _+_, _≤_}
+use native.Mathlib.Omega.{arith}
+use lib.ListN.{length}
+use Rattle.octets.specs.Lists.{onto}
+use Rattle.cipher.specs.Ccm.{Opened, valid, invalid}
+use Rattle.frames.specs.declared.Layer.{Layer}
+use Rattle.frames.specs.declared.Secured.{Secured}
+use Rattle.seals.specs.declared.Unsealed.{Unsealed}
+use Rattle.seals.specs.declared.Unsealed.the-variants.{Plain, Forged}
+use Rattle.seals.specs.Sealing.{messageOf, plainFrame, made, none, toldUnsealed, Outcome, gave, sound, unsealedOnto, unsealing}
+use Rattle.seals.proofs.Opened.{sound-tells, unsealing-is}
+
+module _ (k : List ℕ) (l : Layer) (f : List ℕ) (s : Secured) (o : List ℕ) (t : sound f s ≡ true) (room : 116 ≤ length o) where
+  -- a frame of n octets was made, and p is the output that it left
+  pub record MadeOf (n : ℕ) (p : List ℕ) : Type 0 where
+    pub message : List ℕ
+    pub fits : messageOf k f s ≡ valid message
+    pub count : n ≡ s .header + length message
+    pub laid : p ≡ onto (plainFrame l f s message) o
+
+  by-message : (w : Unsealed) (p : List ℕ) → gave (toldUnsealed w) p ≡ unsealing k l f s o
+      → gave (toldUnsealed w) p ≡ unsealedOnto l f s o (messageOf k f s)
+  by-message w p e = e ∙ unsealing-is k l f s o (sound-tells f s t) room
+
+  pub plain-tells : (w : Unsealed) (n : ℕ) (p : List ℕ) → w ≡ Plain n → gave (toldUnsealed w) p ≡ unsealing k l f s o → MadeOf n p
+  plain-tells w n p ew e = go (messageOf k f s) refl (ap (λ (x : Unsealed). gave (toldUnsealed x) p) (sym ew) ∙ by-message w p e)
+    where
+      go : (r : Opened) → messageOf k f s ≡ r → gave (made n) p ≡ unsealedOnto l f s o r → MadeOf n p
+      go (valid m) q g =
+          let a : made n ≡ made (s .header + length m) = ap (λ (x : Outcome). x .answer) g in
+          record { message = m; fits = q; count = cc; laid = ap (λ (x : Outcome). x .out) g }
+      go invalid q g =
+          let a : made n ≡ none = ap (λ (x : Outcome). x .answer) g in
+          let z : _≡_ {A = ℕ} 0 1 = cc in
+          absurd (omega arith)
+
+  pub forged-tells : (w : Unsealed) (p : List ℕ) → w ≡ Forged → gave (toldUnsealed w) p ≡ unsealing k l f s o
+      → (messageOf k f s ≡ invalid) × (p ≡ o)
+  forged-tells w p ew e = go (messageOf k f s) refl (ap (λ (x : Unsealed). gave (toldUnsealed x) p) (sym ew) ∙ by-message w p e)
+    where
+      go : (r : Opened) → messageOf k f s ≡ r → gave none p ≡ unsealedOnto l f s o r → (messageOf k f s ≡ invalid) × (p ≡ o)
+      go (valid m) q g =
+          let a : none ≡ made (s .header + length m) = ap (λ (x : Outcome). x .answer) g in
+          let z : _≡_ {A = ℕ} 0 1 = cc in
+          absurd (omega arith)
+      go invalid q g = (q, ap (λ (x : Outcome). x .out) g)
