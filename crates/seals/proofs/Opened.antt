@@ -2,37 +2,37 @@
 -- Assumes nothing.
 use mathlib.Core.Path.{_≡_, refl, sym, ap, ap₂, _∙_}
 use mathlib.Core.Bool.{Bool, true, false}
-use mathlib.Core.List.{List, _++_, append-assoc}
+use mathlib.Core.List.{List, _++_}
 use Prim.Native.Nat.{ℕ, _+_, _-_, _≤_}
 use native.Mathlib.Omega.{arith}
 use lib.Dec.{leb}
-use lib.ListN.{length, take, drop, length-drop, length-set, length-append, take-append-drop}
-use lib.Seq.{take-at, drop-drop, length-take-le}
+use lib.ListN.{length, take, drop, length-drop, length-set, take-append-drop}
+use lib.Seq.{length-take-le}
 use borrow.Author.Tests.{leb-true, le-leb}
 use Rattle.octets.specs.Choice.{both}
 use Rattle.octets.specs.Lists.{at, onto}
-use Rattle.seals.specs.Sealing.{made as Seals·made}
-use Rattle.seals.specs.Sealing.{authenticatedOf, bodyOf, nonceFor, messageOf, plainFrame, gave, none, sound, unsealedOnto, unsealing, longest}
+use Rattle.seals.specs.Sealing.{authenticatedOf, bodyOf, nonceFor, messageOf, plainFrame, gave, none, sound, unsealedOnto, unsealing, longest, made as Seals·made}
 use Rattle.cipher.specs.Aes.{aes128}
 use Rattle.cipher.specs.Ccm.{Opened, valid, invalid}
 use Rattle.cipher.specs.declared.Fault.{Fault}
 use Rattle.cipher.specs.declared.Answer.{Answer}
 use Rattle.cipher.specs.declared.Answer.the-variants.{Made, Refused}
-use Rattle.cipher.specs.Answers.{Outcome as Cipher·Outcome, gave as Cipher·gave}
-use Rattle.cipher.specs.Answers.{opening, openedOnto, made, refused, told, number}
+use Rattle.cipher.specs.Answers.{opening, openedOnto, made, refused, told, number, Outcome as Cipher·Outcome, gave as Cipher·gave}
 use Rattle.cipher.proofs.Lengths.{tag-four, opening-judged, valid-length}
 use Rattle.frames.specs.declared.Layer.{Layer}
 use Rattle.frames.specs.declared.Secured.{Secured}
-use Rattle.frames.specs.Security.{tagOctets, withLevel, authenticated}
+use Rattle.frames.specs.Security.{tagOctets, withLevel}
 use Rattle.frames.specs.Making.{bitPlace, bitValue, cleared, laid, plainHeader}
 use Rattle.frames.proofs.Layings.{laid-onto}
+use Rattle.seals.proofs.Parts.{onto-more}
+use Rattle.seals.proofs.Authentic.{authenticated-length, scratch-front}
 
 pub record Sound (f : List ℕ) (s : Secured) : Type 0 where
   pub headed : 2 ≤ s .header
   pub whole : s .header + s .aux + 4 ≤ length f
   pub short : length f ≤ 116
 
-both-true : (a b : Bool) → both a b ≡ true → (a ≡ true) × (b ≡ true)
+pub both-true : (a b : Bool) → both a b ≡ true → (a ≡ true) × (b ≡ true)
 both-true true b e = (refl, e)
 both-true false b e = let z : _≡_ {A = ℕ} 0 1 = cc in absurd (omega arith)
 
@@ -52,18 +52,7 @@ module _ (k : List ℕ) (l : Layer) (f : List ℕ) (s : Secured) (o : List ℕ) 
   both-headers = s .header + s .aux
 
   auth-length : length (authenticatedOf f s) ≡ both-headers
-  unfolding authenticated
-  auth-length = length-set (take both-headers f) (s .header) _ ∙ length-take-le both-headers f (let h = t .whole in omega arith)
-
-  -- the scratch holds the authenticated octets at its front
-  pub auth-front : (z a : List ℕ) → length z ≡ 116 → a ≡ laid z f both-headers (s .header) (withLevel (at f (s .header)))
-      → take both-headers a ≡ authenticatedOf f s
-  unfolding authenticated
-  auth-front z a e q =
-      let h = t .whole in
-      let j = t .short in
-      ap (take both-headers) (q ∙ laid-onto z f both-headers (s .header) (withLevel (at f (s .header))) (omega arith) (omega arith))
-      ∙ take-at (authenticatedOf f s) _ both-headers auth-length
+  auth-length = authenticated-length f (s .header) both-headers (let h = t .whole in omega arith)
 
   -- what the cipher was asked is what the definition asks
   pub asked : (z a n : List ℕ) → length z ≡ 116 → a ≡ laid z f both-headers (s .header) (withLevel (at f (s .header))) → n ≡ nonceFor s
@@ -72,7 +61,8 @@ module _ (k : List ℕ) (l : Layer) (f : List ℕ) (s : Secured) (o : List ℕ) 
   asked z a n e q en =
       let h = t .whole in
       let j = t .short in
-      ap₂ (λ (u v : List ℕ). opening 4 k u v (drop both-headers f) (drop (s .header) o)) en (auth-front z a e q)
+      ap₂ (λ (u v : List ℕ). opening 4 k u v (drop both-headers f) (drop (s .header) o)) en
+      (scratch-front z a f (s .header) both-headers (omega arith) (omega arith) q)
       ∙ opening-judged 4 k (nonceFor s) (authenticatedOf f s) tag-four (omega (arith, auth-length))
       (drop both-headers f) (drop (s .header) o)
       (omega (arith, length-drop both-headers f)) (omega (arith, length-drop both-headers f))
@@ -94,11 +84,9 @@ module _ (k : List ℕ) (l : Layer) (f : List ℕ) (s : Secured) (o : List ℕ) 
       let h = t .whole in
       let j = t .short in
       eq ∙ laid-onto p f (s .header) (bitPlace l) (cleared (bitValue l) (at f (bitPlace l))) (omega arith) (omega arith)
-      ∙ ap (λ (n : ℕ). plainHeader l f (s .header) ++ drop n p) header-length
-      ∙ ap (λ (x : List ℕ). plainHeader l f (s .header) ++ x) (ep ∙ ap (λ (x : List ℕ). m ++ x) (drop-drop (length m) (s .header) o))
-      ∙ sym (append-assoc (plainHeader l f (s .header)) m (drop (s .header + length m) o))
-      ∙ ap (λ (n : ℕ). (plainHeader l f (s .header) ++ m) ++ drop n o)
-      (sym (length-append (plainHeader l f (s .header)) m ∙ ap (λ (n : ℕ). n + length m) header-length))
+      ∙ ap (λ (x : List ℕ). plainHeader l f (s .header) ++ x)
+      (ap (λ (n : ℕ). drop n p) header-length ∙ ep ∙ ap (λ (n : ℕ). onto m (drop n o)) (sym header-length))
+      ∙ onto-more (plainHeader l f (s .header)) m o
 
   -- a message has what is left of the frame without headers and tag
   pub message-length : (m : List ℕ) → messageOf k f s ≡ valid m → length m ≡ length f - both-headers - 4

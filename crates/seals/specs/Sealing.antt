@@ -4,18 +4,20 @@
 use mathlib.Core.Bool.{Bool, true, false}
 use mathlib.Core.List.{List, _++_}
 use Prim.Native.Nat.{ℕ, _+_}
-use lib.Dec.{leb}
-use lib.ListN.{length, drop}
+use lib.Dec.{eqb, leb}
+use lib.ListN.{length, take, drop}
 use Rattle.octets.specs.Choice.{if_then_else_, both}
 use Rattle.octets.specs.Lists.{onto}
 use Rattle.seals.specs.declared.Unsealed.{Unsealed}
 use Rattle.seals.specs.declared.Unsealed.the-variants.{Plain, Forged}
+use Rattle.seals.specs.declared.Sealed.{Sealed}
+use Rattle.seals.specs.declared.Sealed.the-variants.{Octets, Nothing}
 use Rattle.cipher.specs.Aes.{aes128}
-use Rattle.cipher.specs.Ccm.{ccmOpen, Opened, valid, invalid}
+use Rattle.cipher.specs.Ccm.{ccmSeal, ccmOpen, Opened, valid, invalid}
 use Rattle.frames.specs.declared.Layer.{Layer}
 use Rattle.frames.specs.declared.Secured.{Secured}
-use Rattle.frames.specs.Security.{tagOctets, nonceOf, authenticated}
-use Rattle.frames.specs.Making.{plainHeader}
+use Rattle.frames.specs.Security.{tagOctets, wireControl, nonceOf, authenticated, auxiliary}
+use Rattle.frames.specs.Making.{plainHeader, securedHeader}
 
 -- ---- opening
 
@@ -45,6 +47,25 @@ genuine k f s = isValid (messageOf k f s)
 unfoldable pub plainFrame : Layer → List ℕ → Secured → List ℕ → List ℕ
 plainFrame l f s m = plainHeader l f (s .header) ++ m
 
+-- ---- sealing
+
+-- only identifier 1 sends a key sequence number: 14 octets, and 13 for the others
+unfoldable pub sentOctets : ℕ → ℕ
+sentOctets k = if eqb k 1 then 14 else 13
+
+unfoldable pub sentHeader : ℕ → ℕ → ℕ → ℕ → List ℕ
+sentHeader k counter sender seq = take (sentOctets k) (auxiliary k counter sender seq)
+
+-- the secured frame of a plain frame f with h octets of header: header, auxiliary header x, ciphertext and tag
+unfoldable pub sealedWith : List ℕ → List ℕ → Layer → List ℕ → List ℕ → ℕ → List ℕ
+sealedWith key n l x f h =
+    (securedHeader l f h ++ x)
+    ++ ccmSeal (aes128 key) tagOctets n (authenticated (securedHeader l f h ++ x) h (h + length x)) (drop h f)
+
+unfoldable pub sealedFrame : List ℕ → Layer → ℕ → ℕ → ℕ → ℕ → List ℕ → ℕ → List ℕ
+sealedFrame key l k counter sender seq f h =
+    sealedWith key (nonceOf sender counter (wireControl k)) l (sentHeader k counter sender seq) f h
+
 -- ---- what the routines tell and leave
 
 pub data Told : Type 0 where
@@ -54,6 +75,10 @@ pub data Told : Type 0 where
 abbrev pub toldUnsealed : Unsealed → Told
 toldUnsealed (Plain n) = made n
 toldUnsealed Forged = none
+
+abbrev pub toldSealed : Sealed → Told
+toldSealed (Octets n) = made n
+toldSealed Nothing = none
 
 pub record Outcome : Type 0 where
   pub answer : Told
@@ -80,3 +105,17 @@ unsealing k l f s o =
 
 unfoldable pub looking : List ℕ → List ℕ → Secured → Bool
 looking k f s = both (sound f s) (genuine k f s)
+
+-- a plain frame that leaves room for the auxiliary header and the tag
+unfoldable pub sealable : ℕ → List ℕ → ℕ → Bool
+sealable k f h = both (leb 2 h) (both (leb h (length f)) (leb (length f + sentOctets k + tagOctets) longest))
+
+abbrev pub sealedOnto : List ℕ → List ℕ → Layer → List ℕ → List ℕ → ℕ → List ℕ → Outcome
+sealedOnto key n l x f h o = gave (made (length f + length x + tagOctets)) (onto (sealedWith key n l x f h) o)
+
+-- nothing is made for an identifier that two bits do not hold
+unfoldable pub sealing : List ℕ → Layer → ℕ → ℕ → ℕ → ℕ → List ℕ → ℕ → List ℕ → Outcome
+sealing key l k counter sender seq f h o =
+    if both (leb k 3) (both (sealable k f h) (leb longest (length o)))
+    then sealedOnto key (nonceOf sender counter (wireControl k)) l (sentHeader k counter sender seq) f h o
+    else gave none o

@@ -3,18 +3,25 @@ use cipher::Answer;
 use frames::Layer;
 use frames::Secured;
 ghost use mathlib.Core.Path.{_≡_};
-ghost use Prim.Native.Nat.{_≤_};
+ghost use Prim.Native.Nat.{_+_, _≤_};
 ghost use mathlib.Core.Bool.{true};
 ghost use lib.ListN.{length, take, drop};
 ghost use Rattle.cipher.specs.Answers.{told, opening};
-ghost use Rattle.cipher.specs.Answers.{gave as Cipher·gave};
-ghost use Rattle.seals.specs.Sealing.{sound, toldUnsealed, gave, unsealing, looking};
+ghost use Rattle.cipher.specs.Answers.{gave as Cipher·gave, sealing as Cipher·sealing};
+ghost use Rattle.seals.specs.Sealing.{sound, sentOctets, toldUnsealed, toldSealed, gave, unsealing, looking, sealable, sealedOnto};
+ghost use Rattle.seals.specs.Sealing.{sealing as Sealed·sealing};
 
 // The octets of the frame that was made, or that none was: a tag that doesn't fit, or a frame that
 // is not what was announced.
 pub enum Unsealed {
     Plain(usize),
     Forged,
+}
+
+// The octets of the secured frame that was made, or that none was.
+pub enum Sealed {
+    Octets(usize),
+    Nothing,
 }
 
 fn is_sound(f: &[u8], s: Secured) -> bool
@@ -95,4 +102,102 @@ pub fn look(key: [u8; 16], f: &[u8], s: Secured) -> bool
         Unsealed::Plain(_) => true,
         Unsealed::Forged => false,
     }
+}
+
+// How many octets of the auxiliary header are sent: only identifier 1 sends a key sequence number.
+fn sent_octets(identifier: u8) -> usize
+    ensures { λ r. ⌜ (r ≡ sentOctets identifier) × (r ≤ 14) ⌝ }
+{
+    if identifier == 1 {
+        return 14;
+    }
+    13
+}
+
+fn is_sealable(identifier: u8, f: &[u8], h: usize) -> bool
+    ensures { λ r. ⌜ r ≡ sealable identifier (now (f .entry)) h ⌝ }
+{
+    if h < 2 {
+        return false;
+    }
+    if f.len() < h {
+        return false;
+    }
+    if 116 < f.len() {
+        return false;
+    }
+    f.len() + sent_octets(identifier) + 4 <= 116
+}
+
+// The secured frame of a plain frame f with h octets of header, at the start of out, with the
+// length that it answers. None is made, and out stays, where the identifier is above 3, where the
+// frame has fewer octets or leaves no room for auxiliary header and tag, or where out has fewer than
+// 116 octets.
+pub fn seal(
+    key: [u8; 16],
+    l: Layer,
+    identifier: u8,
+    counter: u32,
+    sender: u64,
+    sequence: u8,
+    f: &[u8],
+    h: usize,
+    out: &mut [u8],
+) -> Sealed
+    ensures { λ r. ⌜ gave (toldSealed r) (now (out .exit)) ≡ Sealed·sealing key l identifier counter sender sequence (now (f .entry)) h (now (out .entry)) ⌝ }
+{
+    if 3 < identifier {
+        return Sealed::Nothing;
+    }
+    if !is_sealable(identifier, f, h) {
+        return Sealed::Nothing;
+    }
+    if out.len() < 116 {
+        return Sealed::Nothing;
+    }
+    let aux = frames::auxiliary_header(identifier, counter, sender, sequence);
+    let nonce = frames::nonce(sender, counter, aux[0]);
+    seal_under(key, nonce, l, aux, sent_octets(identifier), f, h, out)
+}
+
+// Both headers, then the cipher's part behind them.
+fn seal_under(
+    key: [u8; 16],
+    nonce: [u8; 13],
+    l: Layer,
+    aux: [u8; 14],
+    x: usize,
+    f: &[u8],
+    h: usize,
+    out: &mut [u8],
+) -> Sealed
+    requires { ⌜ ((x ≤ 14) × (2 ≤ h)) × ((h ≤ length (now f)) × ((length (now f) + x + 4 ≤ 116) × (116 ≤ length (now out)))) ⌝ }
+    ensures { λ r. ⌜ gave (toldSealed r) (now (out .exit)) ≡ sealedOnto key nonce l (take x aux) (now (f .entry)) h (now (out .entry)) ⌝ }
+{
+    let n = h + x;
+    frames::lay_secured_header(out, l, f, h);
+    octets::paste_at(out, h, &aux[..x]);
+    let mut a = [0u8; 116];
+    frames::lay_authenticated(&mut a, out, h, n);
+    match seal_body(key, nonce, &a[..n], f, h, n, out) {
+        Answer::Made(m) => Sealed::Octets(n + m),
+        Answer::Refused(_) => Sealed::Nothing,
+    }
+}
+
+// The cipher's part, which writes behind n octets of out.
+fn seal_body(
+    key: [u8; 16],
+    nonce: [u8; 13],
+    a: &[u8],
+    f: &[u8],
+    h: usize,
+    n: usize,
+    out: &mut [u8],
+) -> Answer
+    requires { ⌜ (h ≤ length (now f)) × (n ≤ length (now out)) ⌝ }
+    ensures { λ r. ⌜ Cipher·gave (told r) (drop n (now (out .exit))) ≡ Cipher·sealing 4 key nonce (now (a .entry)) (drop h (now (f .entry))) (drop n (now (out .entry))) ⌝ }
+    ensures { λ _. ⌜ take n (now (out .exit)) ≡ take n (now (out .entry)) ⌝ }
+{
+    cipher::seal(4, key, nonce, a, &f[h..], &mut out[n..])
 }

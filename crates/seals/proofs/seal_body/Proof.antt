@@ -1,0 +1,53 @@
+use mathlib.Core.Path.{ap, ap₂, _∙_}
+use borrow.Author.Needs.{needs}
+use Rattle.cipher.specs.Answers.{sealing, told, gave}
+use Rattle.seals.proofs.Parts.{tail-part, back-front, back-tail}
+use Rattle.seals.proofs.seal_body.Statement.{statement}
+use Rattle.seals.proofs.seal_body.Tie as tie
+
+sub-seal : tie.Need-sub-seal
+sub-seal c = search needs
+
+part-seal-start : tie.Need-part-seal-start
+part-seal-start c = search needs
+
+part-seal-end : tie.Need-part-seal-end
+part-seal-end c = search needs
+
+sub-seal-2 : tie.Need-sub-seal-2
+sub-seal-2 c = search needs
+
+part-seal-start-2 : tie.Need-part-seal-start-2
+part-seal-start-2 c = search needs
+
+part-seal-end-2 : tie.Need-part-seal-end-2
+part-seal-end-2 c = search needs
+
+seal-requires : tie.Need-seal-requires
+seal-requires c κs = search needs
+
+same-length : tie.Need-same-length
+same-length c = search needs
+
+returns : tie.Need-returns
+returns c = let x = c .before .before .before .before .before .before .before .before in
+    let y = x .args in
+    let o = c .before .before .seal .last in (
+      ap (gave (told (c .before .before .seal .result))) (back-tail (y .out .now) _ (y .n) (x .pre .1)) ∙ c .before .before .seal .ensures
+          ∙ ap₂ (sealing 4 (y .key) (y .nonce) (y .a .now)) (tail-part (y .f .now) (y .h)) (tail-part (y .out .now) (y .n)),
+      back-front (y .out .now) (o .1 .1 .1 .1 .1 .0) (y .n) (x .pre .1),
+    )
+
+pub seal-body-spec : {M : Type 1} → statement M
+seal-body-spec =
+    tie.close
+    (tie.spec
+    sub-seal
+    part-seal-start
+    part-seal-end
+    sub-seal-2
+    part-seal-start-2
+    part-seal-end-2
+    seal-requires
+    same-length
+    returns)
