@@ -2,3 +2,4 @@ pub mod Places
 pub mod Rows
 pub mod State
 pub mod Requests
+pub mod Sending

@@ -4,9 +4,11 @@ mod keys;
 mod partners;
 mod places;
 mod rows;
+mod sending;
 mod state;
 
 use answers::Outcome;
+use answers::Sealed;
 pub use keys::install;
 pub use keys::slot_of;
 pub use keys::switch;
@@ -17,6 +19,8 @@ pub use rows::find_row;
 pub use rows::forget;
 pub use rows::lists_fit;
 pub use rows::put_row;
+pub use sending::refuse_seal;
+pub use sending::spend;
 pub use state::make;
 
 // The lowest place that was looked for.
@@ -57,5 +61,11 @@ pub struct Board {
 // A request's answer, and the board that it leaves.
 pub struct After {
     pub answer: Outcome,
+    pub board: Board,
+}
+
+// What sealing answers, and the board that it leaves.
+pub struct Sent {
+    pub answer: Sealed,
     pub board: Board,
 }

@@ -1,5 +1,7 @@
-// Network frames: opening and looking.
+// Network frames: opening, sealing and looking.
 mod opening;
+mod sealing;
 
 pub use opening::look_frame;
 pub use opening::open_frame;
+pub use sealing::seal_frame;

@@ -66,7 +66,7 @@ suited-wire Aps k u = simp (wire-identifier k (u .0), ne-eqb k 1 (u .1))
 -- ---- the auxiliary header that is sent
 
 module _ (k n s q : ℕ) where
-  sent-length : length (sentHeader k n s q) ≡ sentOctets k
+  pub sent-length : length (sentHeader k n s q) ≡ sentOctets k
   unfolding sentHeader sentOctets auxiliary
   sent-length = go (eqb k 1)
     where

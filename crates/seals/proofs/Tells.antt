@@ -1,4 +1,4 @@
--- What unsealing tells of the message: the law that both layers' opening goes by.
+-- What unsealing and sealing tell: the laws that both layers go by.
 -- Assumes nothing.
 use mathlib.Core.Path.{_≡_, refl, sym, ap, _∙_}
 use mathlib.Core.Bool.{true}
@@ -6,13 +6,18 @@ use mathlib.Core.List.{List}
 use Prim.Native.Nat.{ℕ, _+_, _≤_}
 use native.Mathlib.Omega.{arith}
 use lib.ListN.{length}
+use borrow.Author.Tests.{le-leb}
 use Rattle.octets.specs.Lists.{onto}
 use Rattle.cipher.specs.Ccm.{Opened, valid, invalid}
 use Rattle.frames.specs.declared.Layer.{Layer}
 use Rattle.frames.specs.declared.Secured.{Secured}
 use Rattle.seals.specs.declared.Unsealed.{Unsealed}
 use Rattle.seals.specs.declared.Unsealed.the-variants.{Plain, Forged}
-use Rattle.seals.specs.Sealing.{messageOf, plainFrame, made, none, toldUnsealed, Outcome, gave, sound, unsealedOnto, unsealing}
+use Rattle.seals.specs.declared.Sealed.{Sealed}
+use Rattle.seals.specs.declared.Sealed.the-variants.{Octets, Nothing}
+use Rattle.seals.proofs.Securing.{Sealable}
+use Rattle.seals.proofs.Again.{sent-length}
+use Rattle.seals.specs.Sealing.{sentOctets, sealable, sealedFrame, sealing, toldSealed, messageOf, plainFrame, made, none, toldUnsealed, Outcome, gave, sound, unsealedOnto, unsealing}
 use Rattle.seals.proofs.Opened.{sound-tells, unsealing-is}
 
 module _ (k : List ℕ) (l : Layer) (f : List ℕ) (s : Secured) (o : List ℕ) (t : sound f s ≡ true) (room : 116 ≤ length o) where
@@ -49,3 +54,28 @@ module _ (k : List ℕ) (l : Layer) (f : List ℕ) (s : Secured) (o : List ℕ) 
           let z : _≡_ {A = ℕ} 0 1 = cc in
           absurd (omega arith)
       go invalid q g = (q, ap (λ (x : Outcome). x .out) g)
+
+-- ---- sealing
+
+module _ (key : List ℕ) (l : Layer) (k n a q : ℕ) (f : List ℕ) (h : ℕ) (o : List ℕ) (low : k ≤ 3) (t : Sealable k f h) (room : 116 ≤ length o) where
+  pub sealing-makes : sealing key l k n a q f h o
+      ≡ gave (made (length f + sentOctets k + 4)) (onto (sealedFrame key l k n a q f h) o)
+  unfolding sealing sealable sealedFrame
+  sealing-makes =
+      simp (le-leb _ _ low, le-leb _ _ (t .headed), le-leb _ _ (t .within), le-leb _ _ (t .short), le-leb _ _ room)
+      (ap (λ (m : ℕ). gave (made (length f + m + 4)) (onto (sealedFrame key l k n a q f h) o)) (sent-length k n a q))
+
+  -- of the answer that the call gave
+  pub sealed-tells : (w : Sealed) (m : ℕ) (p : List ℕ) → w ≡ Octets m → gave (toldSealed w) p ≡ sealing key l k n a q f h o
+      → (m ≡ length f + sentOctets k + 4) × (p ≡ onto (sealedFrame key l k n a q f h) o)
+  sealed-tells w m p ew e =
+      let g = ap (λ (x : Sealed). gave (toldSealed x) p) (sym ew) ∙ e ∙ sealing-makes in
+      let u : made m ≡ made (length f + sentOctets k + 4) = ap (λ (x : Outcome). x .answer) g in
+      (cc, ap (λ (x : Outcome). x .out) g)
+
+  pub never-nothing : {A : Type 0} (w : Sealed) (p : List ℕ) → w ≡ Nothing → gave (toldSealed w) p ≡ sealing key l k n a q f h o → A
+  never-nothing w p ew e =
+      let g = ap (λ (x : Sealed). gave (toldSealed x) p) (sym ew) ∙ e ∙ sealing-makes in
+      let u : none ≡ made (length f + sentOctets k + 4) = ap (λ (x : Outcome). x .answer) g in
+      let z : _≡_ {A = ℕ} 0 1 = cc in
+      absurd (omega arith)

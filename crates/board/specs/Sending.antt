@@ -1,0 +1,36 @@
+-- Document 01: sealing "answers the length, and raises the outgoing counter by 1"; the counter is "never lowered (ours)",
+-- and 4,294,967,295 is the top that sealing refuses (7).
+-- Assumes nothing.
+use mathlib.Core.List.{List}
+use Prim.Native.Nat.{ℕ, _+_}
+use lib.Dec.{eqb}
+use Rattle.octets.specs.Choice.{if_then_else_}
+use Rattle.answers.specs.Numbers.{FrameTold}
+use Rattle.board.specs.declared.Board.{Board}
+
+abbrev pub top : ℕ
+top = 4294967295
+
+abbrev pub withOutgoing : Board → ℕ → Board
+withOutgoing b n =
+    record {
+      own = b .own;
+      outgoing = n;
+      aps = b .aps;
+      slots = b .slots;
+      active = b .active;
+      links = b .links;
+    }
+
+-- the counter raised by 1; at its top it stays
+unfoldable pub spent : Board → Board
+spent b = withOutgoing b (if eqb (b .outgoing) top then top else b .outgoing + 1)
+
+-- what a request over a frame answers, and the board and the output that it leaves
+pub record Framed : Type 0 where
+  pub answer : FrameTold
+  pub board : Board
+  pub out : List ℕ
+
+abbrev pub framed : FrameTold → Board → List ℕ → Framed
+framed t b o = record { answer = t; board = b; out = o }
