@@ -1,11 +1,13 @@
-// APS frames: opening and looking.
+// APS frames: opening, sealing and looking.
 mod keys;
 mod opening;
+mod sealing;
 
 use answers::Opened;
 use board::Board;
 pub use opening::look_frame;
 pub use opening::open_frame;
+pub use sealing::seal_frame;
 
 // What opening answers, and the board that it leaves.
 pub struct After {

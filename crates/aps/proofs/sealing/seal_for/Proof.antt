@@ -1,0 +1,55 @@
+use mathlib.Core.Path.{sym, _∙_}
+use native.Mathlib.Omega.{arith}
+use borrow.Author.Needs.{needs}
+use Rattle.aps.specs.Sealing.{sealedFor}
+use Rattle.board.proofs.Found.{link-place}
+use Rattle.aps.proofs.Sends.{frame-up}
+use Rattle.aps.proofs.sealing.seal_for.Statement.{statement}
+use Rattle.aps.proofs.sealing.seal_for.Tie as tie
+
+link-of-requires : tie.Need-link-of-requires
+link-of-requires c κs = search needs
+
+enum-known-i : tie.Need-enum-known-i
+enum-known-i c = search needs
+
+mul-l : tie.Need-mul-l
+mul-l c = let h = link-place _ _ _ (sym (c .before .before .before .link-of .ensures) ∙ c .before .i .given .1) in omega arith
+
+array-copy-out-l : tie.Need-array-copy-out-l
+array-copy-out-l c = link-place _ _ _ (sym (c .before .before .before .link-of .ensures) ∙ c .before .i .given .1)
+
+seal-under-requires : tie.Need-seal-under-requires
+seal-under-requires c κs = search needs
+
+enum-told : tie.Need-enum-told
+enum-told c = search needs
+
+refuse-seal-requires : tie.Need-refuse-seal-requires
+refuse-seal-requires c κs = search needs
+
+same-length : tie.Need-same-length
+same-length c = search needs
+
+returns : tie.Need-returns
+unfolding sealedFor
+returns c = simp (sym (c .before .before .before .before .before .before .before .before .before .link-of .ensures) ∙ c .before .before .before .before .before .before .before .i .given .1) (c .before .before .seal-under .ensures)
+
+returns-2 : tie.Need-returns-2
+unfolding sealedFor
+returns-2 c = simp (sym (c .before .before .before .link-of .ensures) ∙ c .before .enum-told .given .1) (frame-up _ (c .refuse-seal .ensures .0) (c .refuse-seal .ensures .1))
+
+pub seal-for-spec : {M : Type 1} → statement M
+seal-for-spec =
+    tie.close
+    (tie.spec
+    link-of-requires
+    enum-known-i
+    mul-l
+    array-copy-out-l
+    seal-under-requires
+    enum-told
+    refuse-seal-requires
+    same-length
+    returns
+    returns-2)
