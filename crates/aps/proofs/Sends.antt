@@ -11,7 +11,7 @@ use borrow.Author.Tests.{ne-eqb, leb-true, not-true}
 use Rattle.octets.specs.Lists.{onto}
 use Rattle.aps.specs.Keys.{keyFor}
 use Rattle.aps.specs.Sealing.{overhead, named, sealedUnder}
-use Rattle.answers.specs.Numbers.{FrameTold, sealed}
+use Rattle.answers.specs.Numbers.{sealed}
 use Rattle.frames.specs.declared.Layer.the-variants.{Aps}
 use Rattle.frames.specs.Reading.{plain, readApsPlain}
 use Rattle.frames.proofs.Found.{plain-to-seal}
@@ -23,10 +23,6 @@ use Rattle.seals.specs.Sealing.{sentOctets, sealedFrame, sealing, toldSealed, g
 use Rattle.seals.proofs.Opened.{both-true}
 use Rattle.seals.proofs.Securing.{Sealable}
 use Rattle.seals.proofs.Tells.{sealed-tells}
-
--- an answer and a board, put together
-pub frame-up : {t u : FrameTold} {b c : Board} (o : List ℕ) → t ≡ u → b ≡ c → framed t b o ≡ framed u c o
-frame-up o p q = ap₂ (λ (x : FrameTold) (y : Board). framed x y o) p q
 
 pub named-most : (k : ℕ) → named k ≡ true → k ≤ 3
 unfolding named

@@ -4,9 +4,14 @@ use mathlib.Core.Path.{_≡_, ap, ap₂, _∙_}
 use mathlib.Core.List.{List}
 use Prim.Native.Nat.{ℕ}
 use Rattle.board.specs.declared.Board.{Board}
+use Rattle.board.specs.Sending.{framed}
 use Rattle.board.specs.Requests.{left, Changed, changed}
-use Rattle.answers.specs.Numbers.{Told}
+use Rattle.answers.specs.Numbers.{Told, FrameTold}
 
 pub left-all : {t u : Told} {b c : Board} {al bl fl gl : List ℕ} → changed t b ≡ changed u c → al ≡ bl → fl ≡ gl → left t b al fl ≡ left u c bl gl
 left-all {t} {u} {b} {c} {al} {bl} {fl} {gl} e p q =
     ap (λ (x : Changed). left (x .answer) (x .board) al fl) e ∙ ap₂ (λ (x y : List ℕ). left u c x y) p q
+
+-- the same of a request over a frame
+pub frame-up : {t u : FrameTold} {b c : Board} (o : List ℕ) → t ≡ u → b ≡ c → framed t b o ≡ framed u c o
+frame-up o p q = ap₂ (λ (x : FrameTold) (y : Board). framed x y o) p q

@@ -7,6 +7,7 @@ use mathlib.Core.List.{List}
 use Prim.Native.Nat.{ℕ, _-_}
 use lib.Dec.{eqb, ltb}
 use Rattle.octets.proofs.Choices.{choose}
+use Rattle.octets.specs.Addresses.{noAddress}
 use Rattle.octets.specs.Lists.{eqList}
 use Rattle.board.specs.declared.Board.{Board}
 use Rattle.board.specs.declared.Place.{Place}
@@ -14,7 +15,6 @@ use Rattle.board.specs.declared.Place.the-variants.{At, Absent}
 use Rattle.board.specs.Rows.{listsFit}
 use Rattle.board.specs.State.{slotAt, linkAt, carries, noLink, withSlot, withLink}
 use Rattle.board.specs.Requests.{Left, Changed, holds, installed, install, slotOf, switchTo, switch, linkOf, freeLink, added, addNew, addTo, addLink, removeAt, removeLink}
-use Rattle.octets.specs.Addresses.{noAddress}
 
 -- a network request's board beside the one before: all but the slots and the active mark
 pub record KeptByNetwork (b c : Board) : Type 0 where

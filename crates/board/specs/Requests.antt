@@ -5,6 +5,7 @@ use mathlib.Core.List.{List}
 use Prim.Native.Nat.{ℕ, _-_, _*_}
 use lib.Dec.{eqb, ltb}
 use lib.ListN.{set}
+use Rattle.octets.specs.Addresses.{noAddress}
 use Rattle.octets.specs.Choice.{if_then_else_, both}
 use Rattle.octets.specs.Lists.{eqList}
 use Rattle.board.specs.declared.Slot.{Slot}
@@ -16,7 +17,6 @@ use Rattle.board.specs.Places.{firstAt}
 use Rattle.board.specs.Rows.{listsFit, findRow, freed}
 use Rattle.board.specs.State.{slotAt, linkAt, carries, pairs, noLink, fresh, withSlot, withActive, withLink}
 use Rattle.answers.specs.Numbers.{Told, done, refused}
-use Rattle.octets.specs.Addresses.{noAddress}
 
 -- what a request answers, and the board and the lists that it leaves
 pub record Left : Type 0 where

@@ -5,8 +5,8 @@ use mathlib.Core.List.{List}
 use Prim.Native.Nat.{ℕ, _+_}
 use lib.Dec.{eqb}
 use Rattle.octets.specs.Choice.{if_then_else_}
-use Rattle.answers.specs.Numbers.{FrameTold}
 use Rattle.board.specs.declared.Board.{Board}
+use Rattle.answers.specs.Numbers.{FrameTold}
 
 abbrev pub top : ℕ
 top = 4294967295

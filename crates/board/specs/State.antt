@@ -2,12 +2,12 @@
 -- 8-bit APS counter; two network slots (present, sequence number, 16 octets); which slot is active, if any; eight link
 -- entries (present, partner, key, floor). Fresh: both counters 0, nothing present, the rest zero."
 -- Assumes nothing.
-use mathlib.Core.Bool.{Bool, true, false}
+use mathlib.Core.Bool.{Bool, false}
 use mathlib.Core.List.{List, []}
-use Prim.Native.Nat.{ℕ, _-_, _^_}
+use Prim.Native.Nat.{ℕ}
 use lib.Dec.{eqb}
 use lib.ListN.{getD, set}
-use Rattle.octets.specs.Choice.{if_then_else_, both}
+use Rattle.octets.specs.Choice.{both}
 use Rattle.octets.specs.Lists.{tab}
 use Rattle.board.specs.declared.Slot.{Slot}
 use Rattle.board.specs.declared.Link.{Link}

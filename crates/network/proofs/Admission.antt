@@ -18,50 +18,31 @@ use Rattle.board.specs.declared.Place.{Place}
 use Rattle.board.specs.declared.Place.the-variants.{At, Absent}
 use Rattle.seals.specs.declared.Unsealed.{Unsealed}
 use Rattle.seals.specs.declared.Unsealed.the-variants.{Plain, Forged}
-use Rattle.seals.specs.Sealing.{messageOf, isValid, genuine, plainFrame, toldUnsealed, sound, unsealedOnto, unsealing, looking, made, none, Outcome as Seals·Outcome, gave as Seals·gave}
+use Rattle.seals.specs.Sealing.{messageOf, isValid, genuine, plainFrame, toldUnsealed, sound, unsealing, looking, gave as Seals·gave}
 use Rattle.frames.specs.Reading.{secured, readNetwork}
 use Rattle.frames.proofs.Found.{secured-frame}
-use Rattle.seals.proofs.Opened.{sound-tells, tells-sound, unsealing-is}
+use Rattle.seals.proofs.Opened.{tells-sound}
+use Rattle.seals.proofs.Tells.{plain-tells, forged-tells}
 
 module _ (k f : List ℕ) (s : Secured) (al fl o : List ℕ) (t : sound f s ≡ true) (room : 116 ≤ length o) where
-  by-message : (r : Unsealed) (p : List ℕ) → Seals·gave (toldUnsealed r) p ≡ unsealing k Network f s o
-      → Seals·gave (toldUnsealed r) p ≡ unsealedOnto Network f s o (messageOf k f s)
-  by-message r p e = e ∙ unsealing-is k Network f s o (sound-tells f s t) room
-
   -- the tag fits, and row r was put
   pub admit-plain : (w : Unsealed) (n r : ℕ) (p bl gl : List ℕ) → w ≡ Plain n
       → Seals·gave (toldUnsealed w) p ≡ unsealing k Network f s o → bl ≡ set al r (s .sender) → gl ≡ set fl r (s .counter + 1)
       → gave (opened n (s .sender) (Under 1)) bl gl p ≡ admitted f s al fl o (messageOf k f s) (At r)
   unfolding admitted
   admit-plain w n r p bl gl ew e eb eg =
-      go (messageOf k f s) (ap (λ (x : Unsealed). Seals·gave (toldUnsealed x) p) (sym ew) ∙ by-message w p e)
-    where
-      go : (m : Opened) → Seals·gave (made n) p ≡ unsealedOnto Network f s o m
-          → gave (opened n (s .sender) (Under 1)) bl gl p ≡ admitted f s al fl o m (At r)
-      go (valid m) g =
-          let a : made n ≡ made (s .header + length m) = ap (λ (x : Seals·Outcome). x .answer) g in
-          let u : n ≡ s .header + length m = cc in
-          let b : p ≡ onto (plainFrame Network f s m) o = ap (λ (x : Seals·Outcome). x .out) g in
-          ap₂ (λ (x : ℕ) (y : List ℕ). gave (opened x (s .sender) (Under 1)) bl gl y) u b
-          ∙ ap₂ (λ (x y : List ℕ). gave (opened (s .header + length m) (s .sender) (Under 1)) x y (onto (plainFrame Network f s m) o)) eb eg
-      go invalid g =
-          let a : made n ≡ none = ap (λ (x : Seals·Outcome). x .answer) g in
-          let z : _≡_ {A = ℕ} 0 1 = cc in
-          absurd (omega arith)
+      let m = plain-tells k Network f s o t room w n p ew e in
+      ap₂ (λ (x : ℕ) (y : List ℕ). gave (opened x (s .sender) (Under 1)) bl gl y) (m .count) (m .laid)
+      ∙ ap₂ (λ (x y : List ℕ). gave (opened (s .header + length (m .message)) (s .sender) (Under 1)) x y (onto (plainFrame Network f s (m .message)) o)) eb eg
+      ∙ sym (ap (λ (x : Opened). admitted f s al fl o x (At r)) (m .fits))
 
   -- the tag does not fit
   pub admit-forged : (w : Unsealed) (q : Place) (p : List ℕ) → w ≡ Forged → Seals·gave (toldUnsealed w) p ≡ unsealing k Network f s o
       → gave (turnedDown 9) al fl p ≡ admitted f s al fl o (messageOf k f s) q
   unfolding admitted
   admit-forged w q p ew e =
-      go (messageOf k f s) (ap (λ (x : Unsealed). Seals·gave (toldUnsealed x) p) (sym ew) ∙ by-message w p e)
-    where
-      go : (m : Opened) → Seals·gave none p ≡ unsealedOnto Network f s o m → gave (turnedDown 9) al fl p ≡ admitted f s al fl o m q
-      go (valid m) g =
-          let a : none ≡ made (s .header + length m) = ap (λ (x : Seals·Outcome). x .answer) g in
-          let z : _≡_ {A = ℕ} 0 1 = cc in
-          absurd (omega arith)
-      go invalid g = ap (gave (turnedDown 9) al fl) (ap (λ (x : Seals·Outcome). x .out) g)
+      let m = forged-tells k Network f s o t room w p ew e in
+      ap (gave (turnedDown 9) al fl) (m .1) ∙ sym (ap (λ (x : Opened). admitted f s al fl o x q) (m .0))
 
   -- there is no row
   pub away : (w : FrameTold) → w ≡ turnedAway (looking k f s) → gave w al fl o ≡ admitted f s al fl o (messageOf k f s) Absent

@@ -7,7 +7,7 @@ use native.Mathlib.Omega.{arith}
 use lib.ListN.{length}
 use borrow.Author.Tests.{ne-eqb}
 use Rattle.network.specs.Sealing.{overhead, sealedUnder}
-use Rattle.answers.specs.Numbers.{FrameTold, sealed}
+use Rattle.answers.specs.Numbers.{sealed}
 use Rattle.frames.specs.declared.Layer.the-variants.{Network}
 use Rattle.frames.specs.Reading.{plain, readNetworkPlain}
 use Rattle.frames.proofs.Found.{plain-to-seal}
@@ -19,10 +19,6 @@ use Rattle.seals.specs.declared.Sealed.the-variants.{Octets}
 use Rattle.seals.specs.Sealing.{sentOctets, sealing, toldSealed, gave as Seals·gave}
 use Rattle.seals.proofs.Securing.{Sealable}
 use Rattle.seals.proofs.Tells.{sealed-tells}
-
--- an answer and a board, put together
-pub frame-up : {t u : FrameTold} {b c : Board} (o : List ℕ) → t ≡ u → b ≡ c → framed t b o ≡ framed u c o
-frame-up o p q = ap₂ (λ (x : FrameTold) (y : Board). framed x y o) p q
 
 pub sealable-net : (f : List ℕ) (h : ℕ) → 2 ≤ h → h ≤ length f → length f ≤ 98 → Sealable 1 f h
 unfolding sentOctets

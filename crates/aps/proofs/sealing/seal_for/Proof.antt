@@ -2,8 +2,8 @@ use mathlib.Core.Path.{sym, _∙_}
 use native.Mathlib.Omega.{arith}
 use borrow.Author.Needs.{needs}
 use Rattle.aps.specs.Sealing.{sealedFor}
+use Rattle.board.proofs.Leaves.{frame-up}
 use Rattle.board.proofs.Found.{link-place}
-use Rattle.aps.proofs.Sends.{frame-up}
 use Rattle.aps.proofs.sealing.seal_for.Statement.{statement}
 use Rattle.aps.proofs.sealing.seal_for.Tie as tie
 

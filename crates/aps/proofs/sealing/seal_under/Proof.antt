@@ -1,9 +1,10 @@
 use borrow.Author.Needs.{needs}
 use borrow.Author.Tests.{eq-eqb}
 use Rattle.aps.specs.Sealing.{sealedUnder}
+use Rattle.board.proofs.Leaves.{frame-up}
 use Rattle.frames.specs.declared.Layer.the-variants.{Aps}
 use Rattle.seals.proofs.Tells.{never-nothing}
-use Rattle.aps.proofs.Sends.{frame-up, sealed-link, sealable-aps, named-most}
+use Rattle.aps.proofs.Sends.{sealed-link, sealable-aps, named-most}
 use Rattle.aps.proofs.sealing.seal_under.Statement.{statement}
 use Rattle.aps.proofs.sealing.seal_under.Tie as tie
 

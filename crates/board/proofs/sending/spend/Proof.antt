@@ -1,7 +1,7 @@
 use mathlib.Core.Path.{ap}
+use borrow.Author.Needs.{needs}
 use borrow.Author.Tests.{eq-eqb, ne-eqb}
 use Rattle.board.specs.Sending.{spent, withOutgoing}
-use borrow.Author.Needs.{needs}
 use Rattle.board.proofs.sending.spend.Statement.{statement}
 use Rattle.board.proofs.sending.spend.Tie as tie
 

@@ -1,8 +1,8 @@
 use borrow.Author.Needs.{needs}
 use borrow.Author.Tests.{le-leb, lt-leb, not-true, not-false}
 use Rattle.network.specs.Sealing.{sealedBy}
+use Rattle.board.proofs.Leaves.{frame-up}
 use Rattle.board.specs.State.{slotAt}
-use Rattle.network.proofs.Sends.{frame-up}
 use Rattle.network.proofs.sealing.seal_active.Statement.{statement}
 use Rattle.network.proofs.sealing.seal_active.Tie as tie
 

@@ -1,6 +1,6 @@
 use borrow.Author.Needs.{needs}
 use Rattle.network.specs.Sealing.{sealedBy}
-use Rattle.network.proofs.Sends.{frame-up}
+use Rattle.board.proofs.Leaves.{frame-up}
 use Rattle.network.proofs.sealing.seal_by.Statement.{statement}
 use Rattle.network.proofs.sealing.seal_by.Tie as tie
 

@@ -2,8 +2,9 @@ use mathlib.Core.Path.{sym, ap, _∙_}
 use borrow.Author.Needs.{needs}
 use borrow.Author.Tests.{lt-ltb, le-ltb}
 use Rattle.network.specs.Sealing.{sealNetwork, sealedRead}
+use Rattle.board.proofs.Leaves.{frame-up}
 use Rattle.frames.specs.Reading.{toldRead}
-use Rattle.network.proofs.Sends.{frame-up, plain-bounds}
+use Rattle.network.proofs.Sends.{plain-bounds}
 use Rattle.network.proofs.sealing.seal_frame.Statement.{statement}
 use Rattle.network.proofs.sealing.seal_frame.Tie as tie
 

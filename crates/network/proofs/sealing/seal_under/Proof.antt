@@ -2,9 +2,10 @@ use native.Mathlib.Omega.{arith}
 use borrow.Author.Needs.{needs}
 use borrow.Author.Tests.{eq-eqb}
 use Rattle.network.specs.Sealing.{sealedUnder}
+use Rattle.board.proofs.Leaves.{frame-up}
 use Rattle.frames.specs.declared.Layer.the-variants.{Network}
 use Rattle.seals.proofs.Tells.{never-nothing}
-use Rattle.network.proofs.Sends.{frame-up, sealed-slot, sealable-net}
+use Rattle.network.proofs.Sends.{sealed-slot, sealable-net}
 use Rattle.network.proofs.sealing.seal_under.Statement.{statement}
 use Rattle.network.proofs.sealing.seal_under.Tie as tie
 
