@@ -1,0 +1,63 @@
+// What stays from line to line.
+use crate::answer::Answer;
+use crate::answer::bad;
+use crate::answer::done;
+use board::Board;
+
+// The board, if one was made, the stored lists, and how many rows of each are lent. All of it goes
+// by value, the lists too: a list lent down to here would be paid for in every branch.
+pub struct Desk {
+    pub ready: bool,
+    pub board: Board,
+    pub addrs: [u64; 128],
+    pub floors: [u32; 128],
+    pub rows: usize,
+    pub tops: usize,
+}
+
+// A line's answer, and the desk that it leaves.
+pub struct Reply {
+    pub answer: Answer,
+    pub desk: Desk,
+}
+
+// Before the first board there is the one that a refusal leaves, which no line can reach.
+pub fn fresh_desk() -> Desk {
+    let none = board::make(0);
+    let b = none.board;
+    Desk {
+        ready: false,
+        board: b,
+        addrs: [0u64; 128],
+        floors: [0u32; 128],
+        rows: 64,
+        tops: 64,
+    }
+}
+
+pub fn with_board(desk: Desk, b: Board) -> Desk {
+    let mut next = desk;
+    next.board = b;
+    next
+}
+
+pub fn with_lists(desk: Desk, addrs: [u64; 128], floors: [u32; 128]) -> Desk {
+    let mut next = desk;
+    next.addrs = addrs;
+    next.floors = floors;
+    next
+}
+
+pub fn reply_bad(desk: Desk) -> Reply {
+    Reply {
+        answer: bad(),
+        desk,
+    }
+}
+
+pub fn reply_done(desk: Desk) -> Reply {
+    Reply {
+        answer: done(),
+        desk,
+    }
+}

@@ -1,0 +1,138 @@
+// Requests on frames, which need no board.
+use crate::answer::Answer;
+use crate::answer::address;
+use crate::answer::bad;
+use crate::answer::decimal;
+use crate::answer::done;
+use crate::answer::hex;
+use crate::answer::refused;
+use crate::answer::word;
+use crate::read::address_of;
+use crate::read::count_of;
+use crate::read::frame_of;
+use crate::read::lone_frame;
+use crate::read::octet_of;
+use frames::Layer;
+use frames::Read;
+use frames::Secured;
+
+pub fn frame(line: &[u8]) -> Answer {
+    let f = lone_frame(line);
+    if !f.good {
+        return bad();
+    }
+    let o = f.octets;
+    read(frames::read_network(text::front(&o, f.n)))
+}
+
+pub fn aps_frame(line: &[u8]) -> Answer {
+    let sender = address_of(text::field(line, 1));
+    let f = frame_of(text::field(line, 2));
+    let good = text::count(line) == 3 && sender.good && f.good;
+    if !good {
+        return bad();
+    }
+    let o = f.octets;
+    read(frames::read_aps(text::front(&o, f.n), sender.a))
+}
+
+pub fn plain_frame(line: &[u8]) -> Answer {
+    let f = lone_frame(line);
+    if !f.good {
+        return bad();
+    }
+    let o = f.octets;
+    read(frames::read_network_plain(text::front(&o, f.n)))
+}
+
+pub fn plain_aps(line: &[u8]) -> Answer {
+    let f = lone_frame(line);
+    if !f.good {
+        return bad();
+    }
+    let o = f.octets;
+    read(frames::read_aps_plain(text::front(&o, f.n)))
+}
+
+fn read(found: Read) -> Answer {
+    match found {
+        Read::Refused(why) => refused(why),
+        Read::Plain(h) => decimal(word(done(), b"plain"), h as u64),
+        Read::Secured(s) => secured(s),
+    }
+}
+
+fn secured(s: Secured) -> Answer {
+    let a = word(done(), b"secured");
+    let b = decimal(a, s.header as u64);
+    let c = decimal(b, s.aux as u64);
+    let d = decimal(c, s.control as u64);
+    let e = decimal(d, s.counter as u64);
+    let f = address(e, s.sender);
+    decimal(f, s.sequence as u64)
+}
+
+pub fn nonce(line: &[u8]) -> Answer {
+    let sender = address_of(text::field(line, 1));
+    let counter = count_of(text::field(line, 2), u32::MAX);
+    let control = octet_of(text::field(line, 3));
+    let good = text::count(line) == 4 && sender.good && counter.good && control.good;
+    if !good {
+        return bad();
+    }
+    let n = frames::nonce(sender.a, counter.n, control.x);
+    hex(done(), &n)
+}
+
+pub fn aux(line: &[u8]) -> Answer {
+    let identifier = octet_of(text::field(line, 1));
+    let counter = count_of(text::field(line, 2), u32::MAX);
+    let sender = address_of(text::field(line, 3));
+    let number = octet_of(text::field(line, 4));
+    let numbers = identifier.good && counter.good && sender.good && number.good;
+    let good = text::count(line) == 5 && numbers;
+    if !good {
+        return bad();
+    }
+    let a = frames::auxiliary_header(identifier.x, counter.n, sender.a, number.x);
+    hex(done(), &a)
+}
+
+pub fn auth(line: &[u8]) -> Answer {
+    let h = octet_of(text::field(line, 1));
+    let n = octet_of(text::field(line, 2));
+    let f = frame_of(text::field(line, 3));
+    let good = text::count(line) == 4 && h.good && n.good && f.good;
+    if !good {
+        return bad();
+    }
+    let o = f.octets;
+    let mut out = [0xeeu8; 32];
+    frames::lay_authenticated(&mut out, text::front(&o, f.n), h.x as usize, n.x as usize);
+    hex(done(), &out)
+}
+
+// The header of the plain or, raised, of the secured frame.
+pub fn laid(raised: bool, line: &[u8]) -> Answer {
+    let layer = count_of(text::field(line, 1), 1);
+    let h = octet_of(text::field(line, 2));
+    let f = frame_of(text::field(line, 3));
+    let good = text::count(line) == 4 && layer.good && h.good && f.good;
+    if !good {
+        return bad();
+    }
+    let o = f.octets;
+    let out = header(raised, layer.n == 1, text::front(&o, f.n), h.x as usize);
+    hex(done(), &out)
+}
+
+fn header(raised: bool, aps: bool, f: &[u8], h: usize) -> [u8; 32] {
+    let layer = if aps { Layer::Aps } else { Layer::Network };
+    let mut out = [0xeeu8; 32];
+    if raised {
+        frames::lay_secured_header(&mut out, layer, f, h);
+    } else {
+        frames::lay_plain_header(&mut out, layer, f, h);
+    }
+    out
+}
