@@ -28,7 +28,7 @@ pub named-most : (k : ℕ) → named k ≡ true → k ≤ 3
 unfolding named
 named-most k e = leb-true k 3 (both-true (leb k 3) (not (eqb k 1)) e .0)
 
-sent-named : (k : ℕ) → named k ≡ true → sentOctets k ≡ 13
+pub sent-named : (k : ℕ) → named k ≡ true → sentOctets k ≡ 13
 unfolding named sentOctets
 sent-named k e = rw (not-true (eqb k 1) (both-true (leb k 3) (not (eqb k 1)) e .1)) refl
 
