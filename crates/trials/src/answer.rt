@@ -8,57 +8,57 @@ pub struct Answer {
     pub octets: [u8; 8192],
 }
 
-pub fn first(word: &[u8]) -> Answer {
+pub(crate) fn first(word: &[u8]) -> Answer {
     let mut octets = [0u8; 8192];
     let n = text::put(&mut octets, 0, word);
     Answer { n, octets }
 }
 
-pub fn word(a: Answer, w: &[u8]) -> Answer {
+pub(crate) fn word(a: Answer, w: &[u8]) -> Answer {
     let mut octets = a.octets;
     let from = text::put(&mut octets, a.n, b"\t");
     let n = text::put(&mut octets, from, w);
     Answer { n, octets }
 }
 
-pub fn decimal(a: Answer, x: u64) -> Answer {
+pub(crate) fn decimal(a: Answer, x: u64) -> Answer {
     let mut octets = a.octets;
     let from = text::put(&mut octets, a.n, b"\t");
     let n = text::put_decimal(&mut octets, from, x);
     Answer { n, octets }
 }
 
-pub fn address(a: Answer, x: u64) -> Answer {
+pub(crate) fn address(a: Answer, x: u64) -> Answer {
     let mut octets = a.octets;
     let from = text::put(&mut octets, a.n, b"\t");
     let n = text::put_address(&mut octets, from, x);
     Answer { n, octets }
 }
 
-pub fn hex(a: Answer, src: &[u8]) -> Answer {
+pub(crate) fn hex(a: Answer, src: &[u8]) -> Answer {
     let mut octets = a.octets;
     let from = text::put(&mut octets, a.n, b"\t");
     let n = text::put_hex(&mut octets, from, src);
     Answer { n, octets }
 }
 
-pub fn flag(a: Answer, is: bool) -> Answer {
+pub(crate) fn flag(a: Answer, is: bool) -> Answer {
     if is {
         return word(a, b"1");
     }
     word(a, b"0")
 }
 
-pub fn bad() -> Answer {
+pub(crate) fn bad() -> Answer {
     first(b"bad")
 }
 
-pub fn done() -> Answer {
+pub(crate) fn done() -> Answer {
     first(b"ok")
 }
 
 // The words stand in the order of the refusals' numbers, which start at 1.
-pub fn refused(why: Refusal) -> Answer {
+pub(crate) fn refused(why: Refusal) -> Answer {
     let n = answers::number(why);
     let a = decimal(first(b"refused"), n as u64);
     word(
@@ -70,7 +70,7 @@ pub fn refused(why: Refusal) -> Answer {
     )
 }
 
-pub fn told(outcome: Outcome) -> Answer {
+pub(crate) fn told(outcome: Outcome) -> Answer {
     match outcome {
         Outcome::Done => done(),
         Outcome::Refused(why) => refused(why),
@@ -78,7 +78,7 @@ pub fn told(outcome: Outcome) -> Answer {
 }
 
 // Writes an answer behind its line's number.
-pub fn say(number: u64, a: Answer) {
+pub(crate) fn say(number: u64, a: Answer) {
     let octets = a.octets;
     let mut out = [0u8; 8192];
     let at = text::put_decimal(&mut out, 0, number);

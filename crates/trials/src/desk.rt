@@ -22,7 +22,7 @@ pub struct Reply {
 }
 
 // Before the first board there is the one that a refusal leaves, which no line can reach.
-pub fn fresh_desk() -> Desk {
+pub(crate) fn fresh_desk() -> Desk {
     let none = board::make(0);
     let b = none.board;
     Desk {
@@ -35,27 +35,27 @@ pub fn fresh_desk() -> Desk {
     }
 }
 
-pub fn with_board(desk: Desk, b: Board) -> Desk {
+pub(crate) fn with_board(desk: Desk, b: Board) -> Desk {
     let mut next = desk;
     next.board = b;
     next
 }
 
-pub fn with_lists(desk: Desk, addrs: [u64; 128], floors: [u32; 128]) -> Desk {
+pub(crate) fn with_lists(desk: Desk, addrs: [u64; 128], floors: [u32; 128]) -> Desk {
     let mut next = desk;
     next.addrs = addrs;
     next.floors = floors;
     next
 }
 
-pub fn reply_bad(desk: Desk) -> Reply {
+pub(crate) fn reply_bad(desk: Desk) -> Reply {
     Reply {
         answer: bad(),
         desk,
     }
 }
 
-pub fn reply_done(desk: Desk) -> Reply {
+pub(crate) fn reply_done(desk: Desk) -> Reply {
     Reply {
         answer: done(),
         desk,

@@ -16,7 +16,7 @@ use frames::Layer;
 use frames::Read;
 use frames::Secured;
 
-pub fn frame(line: &[u8]) -> Answer {
+pub(crate) fn frame(line: &[u8]) -> Answer {
     let f = lone_frame(line);
     if !f.good {
         return bad();
@@ -25,7 +25,7 @@ pub fn frame(line: &[u8]) -> Answer {
     read(frames::read_network(text::front(&o, f.n)))
 }
 
-pub fn aps_frame(line: &[u8]) -> Answer {
+pub(crate) fn aps_frame(line: &[u8]) -> Answer {
     let sender = address_of(text::field(line, 1));
     let f = frame_of(text::field(line, 2));
     let good = text::count(line) == 3 && sender.good && f.good;
@@ -36,7 +36,7 @@ pub fn aps_frame(line: &[u8]) -> Answer {
     read(frames::read_aps(text::front(&o, f.n), sender.a))
 }
 
-pub fn plain_frame(line: &[u8]) -> Answer {
+pub(crate) fn plain_frame(line: &[u8]) -> Answer {
     let f = lone_frame(line);
     if !f.good {
         return bad();
@@ -45,7 +45,7 @@ pub fn plain_frame(line: &[u8]) -> Answer {
     read(frames::read_network_plain(text::front(&o, f.n)))
 }
 
-pub fn plain_aps(line: &[u8]) -> Answer {
+pub(crate) fn plain_aps(line: &[u8]) -> Answer {
     let f = lone_frame(line);
     if !f.good {
         return bad();
@@ -72,7 +72,7 @@ fn secured(s: Secured) -> Answer {
     decimal(f, s.sequence as u64)
 }
 
-pub fn nonce(line: &[u8]) -> Answer {
+pub(crate) fn nonce(line: &[u8]) -> Answer {
     let sender = address_of(text::field(line, 1));
     let counter = count_of(text::field(line, 2), u32::MAX);
     let control = octet_of(text::field(line, 3));
@@ -84,7 +84,7 @@ pub fn nonce(line: &[u8]) -> Answer {
     hex(done(), &n)
 }
 
-pub fn aux(line: &[u8]) -> Answer {
+pub(crate) fn aux(line: &[u8]) -> Answer {
     let identifier = octet_of(text::field(line, 1));
     let counter = count_of(text::field(line, 2), u32::MAX);
     let sender = address_of(text::field(line, 3));
@@ -98,7 +98,7 @@ pub fn aux(line: &[u8]) -> Answer {
     hex(done(), &a)
 }
 
-pub fn auth(line: &[u8]) -> Answer {
+pub(crate) fn auth(line: &[u8]) -> Answer {
     let h = octet_of(text::field(line, 1));
     let n = octet_of(text::field(line, 2));
     let f = frame_of(text::field(line, 3));
@@ -113,7 +113,7 @@ pub fn auth(line: &[u8]) -> Answer {
 }
 
 // The header of the plain or, raised, of the secured frame.
-pub fn laid(raised: bool, line: &[u8]) -> Answer {
+pub(crate) fn laid(raised: bool, line: &[u8]) -> Answer {
     let layer = count_of(text::field(line, 1), 1);
     let h = octet_of(text::field(line, 2));
     let f = frame_of(text::field(line, 3));

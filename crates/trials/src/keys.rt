@@ -17,7 +17,7 @@ struct Pair {
     key: [u8; 16],
 }
 
-pub fn switch(line: &[u8], desk: Desk) -> Reply {
+pub(crate) fn switch(line: &[u8], desk: Desk) -> Reply {
     let number = lone_octet(line);
     if !number.good {
         return reply_bad(desk);
@@ -26,7 +26,7 @@ pub fn switch(line: &[u8], desk: Desk) -> Reply {
     after(board::switch(b, number.x), desk)
 }
 
-pub fn link(line: &[u8], desk: Desk) -> Reply {
+pub(crate) fn link(line: &[u8], desk: Desk) -> Reply {
     let asked = pair_of(line);
     if !asked.good {
         return reply_bad(desk);
@@ -47,7 +47,7 @@ fn pair_of(line: &[u8]) -> Pair {
     }
 }
 
-pub fn unlink(line: &[u8], desk: Desk) -> Reply {
+pub(crate) fn unlink(line: &[u8], desk: Desk) -> Reply {
     let partner = lone_address(line);
     if !partner.good {
         return reply_bad(desk);
@@ -57,7 +57,7 @@ pub fn unlink(line: &[u8], desk: Desk) -> Reply {
 }
 
 // The board that a request leaves is taken as it is, refused or not: the library says what it is.
-pub fn after(done: After, desk: Desk) -> Reply {
+pub(crate) fn after(done: After, desk: Desk) -> Reply {
     let outcome = done.answer;
     let b = done.board;
     Reply {

@@ -20,7 +20,7 @@ pub struct Turn {
 }
 
 // Nothing says that the input ends, so the turns are counted down from more than it can have.
-pub fn run(line: &mut [u8; 2048]) {
+pub(crate) fn run(line: &mut [u8; 2048]) {
     let place = Place {
         lines: 0,
         at: 0,

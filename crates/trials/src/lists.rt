@@ -33,7 +33,7 @@ struct Sender {
     a: u64,
 }
 
-pub fn make(line: &[u8], desk: Desk) -> Reply {
+pub(crate) fn make(line: &[u8], desk: Desk) -> Reply {
     let own = lone_address(line);
     if !own.good {
         return reply_bad(desk);
@@ -67,7 +67,7 @@ fn started(b: Board, rows: usize, tops: usize) -> Desk {
     }
 }
 
-pub fn lend(line: &[u8], desk: Desk) -> Reply {
+pub(crate) fn lend(line: &[u8], desk: Desk) -> Reply {
     let rows = index_of(text::field(line, 1), 128);
     let tops = index_of(text::field(line, 2), 128);
     let good = text::count(line) == 3 && rows.good && tops.good;
@@ -80,7 +80,7 @@ pub fn lend(line: &[u8], desk: Desk) -> Reply {
     reply_done(next)
 }
 
-pub fn network(line: &[u8], desk: Desk) -> Reply {
+pub(crate) fn network(line: &[u8], desk: Desk) -> Reply {
     let asked = install_of(line);
     if !asked.good {
         return reply_bad(desk);
@@ -119,7 +119,7 @@ fn installed(asked: Install, desk: Desk) -> Reply {
     after(done, with_lists(desk, addrs, floors))
 }
 
-pub fn forget(line: &[u8], desk: Desk) -> Reply {
+pub(crate) fn forget(line: &[u8], desk: Desk) -> Reply {
     let asked = sender_of(line);
     if !asked.good {
         return reply_bad(desk);

@@ -35,7 +35,7 @@ struct RowSet {
     floor: u32,
 }
 
-pub fn set_slot(line: &[u8], desk: Desk) -> Reply {
+pub(crate) fn set_slot(line: &[u8], desk: Desk) -> Reply {
     let asked = slot_set_of(line);
     if !asked.good {
         return reply_bad(desk);
@@ -74,7 +74,7 @@ fn slot_put(b: Board, second: bool, s: Slot) -> Board {
     next
 }
 
-pub fn set_link(line: &[u8], desk: Desk) -> Reply {
+pub(crate) fn set_link(line: &[u8], desk: Desk) -> Reply {
     let asked = link_set_of(line);
     if !asked.good {
         return reply_bad(desk);
@@ -114,7 +114,7 @@ fn link_put(b: Board, i: usize, l: Link) -> Board {
 }
 
 // The row is stored, whether it is lent or not.
-pub fn set_row(line: &[u8], desk: Desk) -> Reply {
+pub(crate) fn set_row(line: &[u8], desk: Desk) -> Reply {
     let asked = row_set_of(line);
     if !asked.good {
         return reply_bad(desk);
@@ -143,7 +143,7 @@ fn row_put(desk: Desk, r: usize, a: u64, floor: u32) -> Desk {
     next
 }
 
-pub fn set_active(line: &[u8], desk: Desk) -> Reply {
+pub(crate) fn set_active(line: &[u8], desk: Desk) -> Reply {
     let i = lone_octet(line);
     if !i.good {
         return reply_bad(desk);

@@ -34,7 +34,7 @@ pub struct Frame {
     pub octets: [u8; 256],
 }
 
-pub fn count_of(f: &[u8], most: u32) -> Count {
+pub(crate) fn count_of(f: &[u8], most: u32) -> Count {
     let read = text::number_of(f, most);
     match read {
         Number::Is(n) => Count { good: true, n },
@@ -42,7 +42,7 @@ pub fn count_of(f: &[u8], most: u32) -> Count {
     }
 }
 
-pub fn index_of(f: &[u8], most: u32) -> Index {
+pub(crate) fn index_of(f: &[u8], most: u32) -> Index {
     let read = count_of(f, most);
     Index {
         good: read.good,
@@ -51,7 +51,7 @@ pub fn index_of(f: &[u8], most: u32) -> Index {
 }
 
 // A number up to 255, so that the remainder is the number.
-pub fn octet_of(f: &[u8]) -> Octet {
+pub(crate) fn octet_of(f: &[u8]) -> Octet {
     let read = count_of(f, 255);
     Octet {
         good: read.good,
@@ -59,7 +59,7 @@ pub fn octet_of(f: &[u8]) -> Octet {
     }
 }
 
-pub fn address_of(f: &[u8]) -> Partner {
+pub(crate) fn address_of(f: &[u8]) -> Partner {
     let read = text::address_of(f);
     match read {
         Address::Is(a) => Partner { good: true, a },
@@ -67,7 +67,7 @@ pub fn address_of(f: &[u8]) -> Partner {
     }
 }
 
-pub fn key_of(f: &[u8]) -> Key {
+pub(crate) fn key_of(f: &[u8]) -> Key {
     let mut octets = [0u8; 16];
     let read = text::octets_of(f, &mut octets);
     let good = match read {
@@ -77,7 +77,7 @@ pub fn key_of(f: &[u8]) -> Key {
     Key { good, octets }
 }
 
-pub fn frame_of(f: &[u8]) -> Frame {
+pub(crate) fn frame_of(f: &[u8]) -> Frame {
     let mut octets = [0u8; 256];
     let read = text::octets_of(f, &mut octets);
     match read {
@@ -95,7 +95,7 @@ pub fn frame_of(f: &[u8]) -> Frame {
 }
 
 // The one field of a line that has no other.
-pub fn lone_octet(line: &[u8]) -> Octet {
+pub(crate) fn lone_octet(line: &[u8]) -> Octet {
     let read = octet_of(text::field(line, 1));
     Octet {
         good: text::count(line) == 2 && read.good,
@@ -103,7 +103,7 @@ pub fn lone_octet(line: &[u8]) -> Octet {
     }
 }
 
-pub fn lone_address(line: &[u8]) -> Partner {
+pub(crate) fn lone_address(line: &[u8]) -> Partner {
     let read = address_of(text::field(line, 1));
     Partner {
         good: text::count(line) == 2 && read.good,
@@ -111,7 +111,7 @@ pub fn lone_address(line: &[u8]) -> Partner {
     }
 }
 
-pub fn lone_frame(line: &[u8]) -> Frame {
+pub(crate) fn lone_frame(line: &[u8]) -> Frame {
     let read = frame_of(text::field(line, 1));
     let octets = read.octets;
     Frame {

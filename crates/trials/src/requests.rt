@@ -13,7 +13,7 @@ use crate::show;
 // The words stand in runs: 0 to 8 change a board, 9 to 12 show it, 13 and 14 change the desk, with
 // a board or without, and the rest ask for neither. The runs are parted before the words are, since
 // a desk is paid for in every arm.
-pub fn reply_to(long: bool, line: &[u8], desk: Desk) -> Reply {
+pub(crate) fn reply_to(long: bool, line: &[u8], desk: Desk) -> Reply {
     let w = word_of(long, line);
     if w > 14 {
         return Reply {

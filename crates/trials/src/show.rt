@@ -11,13 +11,13 @@ use board::Board;
 use board::Link;
 use board::Slot;
 
-pub fn counters(b: Board) -> Answer {
+pub(crate) fn counters(b: Board) -> Answer {
     let own = address(done(), b.own);
     let outgoing = decimal(own, b.outgoing as u64);
     decimal(outgoing, b.aps as u64)
 }
 
-pub fn slots(b: Board) -> Answer {
+pub(crate) fn slots(b: Board) -> Answer {
     let first = b.slots[0];
     let second = b.slots[1];
     let mark = b.active;
@@ -38,7 +38,7 @@ fn active(a: Answer, mark: Active) -> Answer {
     }
 }
 
-pub fn links(entries: [Link; 8]) -> Answer {
+pub(crate) fn links(entries: [Link; 8]) -> Answer {
     let mut a = done();
     for i in 0..8 {
         let l = entries[i];
@@ -55,7 +55,7 @@ fn link(a: Answer, l: Link) -> Answer {
     decimal(octets, l.floor as u64)
 }
 
-pub fn rows(addrs: [u64; 128], floors: [u32; 128]) -> Answer {
+pub(crate) fn rows(addrs: [u64; 128], floors: [u32; 128]) -> Answer {
     let mut a = done();
     for r in 0..128 {
         a = row(a, r, addrs[r], floors[r]);

@@ -24,7 +24,7 @@ pub struct Data {
     pub octets: [u8; 512],
 }
 
-pub fn count_of(f: &[u8], most: u32) -> Count {
+pub(crate) fn count_of(f: &[u8], most: u32) -> Count {
     let read = text::number_of(f, most);
     match read {
         Number::Is(n) => Count {
@@ -35,7 +35,7 @@ pub fn count_of(f: &[u8], most: u32) -> Count {
     }
 }
 
-pub fn block_of(f: &[u8]) -> Block {
+pub(crate) fn block_of(f: &[u8]) -> Block {
     let mut octets = [0u8; 16];
     let read = text::octets_of(f, &mut octets);
     Block {
@@ -44,7 +44,7 @@ pub fn block_of(f: &[u8]) -> Block {
     }
 }
 
-pub fn nonce_of(f: &[u8]) -> Nonce {
+pub(crate) fn nonce_of(f: &[u8]) -> Nonce {
     let mut octets = [0u8; 13];
     let read = text::octets_of(f, &mut octets);
     Nonce {
@@ -53,7 +53,7 @@ pub fn nonce_of(f: &[u8]) -> Nonce {
     }
 }
 
-pub fn data_of(f: &[u8], most: usize) -> Data {
+pub(crate) fn data_of(f: &[u8], most: usize) -> Data {
     let mut octets = [0u8; 512];
     let read = text::octets_of(f, &mut octets);
     match read {

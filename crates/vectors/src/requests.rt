@@ -24,7 +24,7 @@ pub struct Reply {
     pub lent: usize,
 }
 
-pub fn reply_to(long: bool, line: &[u8], lent: usize) -> Reply {
+pub(crate) fn reply_to(long: bool, line: &[u8], lent: usize) -> Reply {
     if long {
         return plain(Outcome::Bad, lent);
     }

@@ -4,7 +4,7 @@ use crate::requests::Reply;
 use cipher::Fault;
 
 // The longest answer has a number of 20 digits and 256 octets.
-pub fn say(number: u64, reply: Reply) {
+pub(crate) fn say(number: u64, reply: Reply) {
     let mut out = [0u8; 1024];
     let outcome = reply.outcome;
     let octets = reply.octets;
