@@ -1,207 +1,201 @@
-"""Headers of network and APS frames, as document 01 lays them out and judges them.
+"""The headers of both layers, the auxiliary header, the nonce and the authenticated octets.
 
-Reading goes up to where a key is looked for. Refusals 1 and 2 come before it and are not judged
-here: they are the opening's and the sealing's own."""
+Document 01, "Layout of a network frame", "Layout of an APS frame", "The auxiliary header and the
+nonce", and the order of "Opening and sealing"; DECISIONS 3 to 6 and 13.
+"""
 
 from dataclasses import dataclass
 
 from lines import refuse_if
-from tables import NOBODY
+from tables import nobody
 
-VERSION = 2
+NETWORK, APS = 0, 1
 TAG = 4
 LEVEL = 5
-# APS header lengths by type, delivery and ack format; any other three are a form not listed.
-APS_HEADERS = {(0, 0, 0): 8, (0, 2, 0): 8, (0, 3, 0): 9,
-               (1, 0, 0): 2, (1, 2, 0): 2,
-               (2, 0, 0): 8, (2, 0, 1): 2}
-NETWORK, APS = range(2)
-SECURITY_BIT = {NETWORK: 9, APS: 5}
-
-
-class Octets:
-    """Octets taken from the front; 3 where there are too few."""
-
-    def __init__(self, octets):
-        self.octets = octets
-        self.taken = 0
-
-    def number(self, n):
-        """The number in the next n octets, least octet first."""
-        refuse_if(len(self.octets) < self.taken + n, 3)
-        self.taken += n
-        return int.from_bytes(self.octets[self.taken - n:self.taken], "little")
+NETWORK_SECURITY = 1 << 9  # of the 16-bit network control
+APS_SECURITY = 1 << 5      # of the APS control
 
 
 @dataclass
 class Secured:
-    """What a secured frame announces. A frame without a key sequence number has 0 there."""
-    header: int
-    aux: int
-    control: int
+    """What a secured frame announces."""
+    header: int     # octets of the frame's header
+    aux: int        # octets of the auxiliary header
+    control: int    # the security control as received
     counter: int
     sender: int
-    sequence: int
+    sequence: int   # 0 where there is none
+
+    @property
+    def identifier(self):
+        """Bits 3 and 4 of the security control."""
+        return self.control >> 3 & 3
+
+    @property
+    def start(self):
+        """Where the payload starts."""
+        return self.header + self.aux
 
 
-def bits(number, low, n=1):
-    """Bits low to low + n - 1 of a number."""
-    return number >> low & (1 << n) - 1
+def number(octets):
+    """A number, least octet first."""
+    return int.from_bytes(octets, "little")
 
 
-def network_form(control):
-    """Whether a network control is one of the listed forms."""
-    return (bits(control, 0, 2) in (0, 1) and bits(control, 2, 4) == VERSION
-            and bits(control, 6, 2) in (0, 1) and not bits(control, 8) and not bits(control, 14, 2))
+def need(frame, length):
+    """3 unless the frame has that many octets."""
+    refuse_if(len(frame) < length, 3)
 
 
-def network_control(octets):
-    """The control of a network frame: 3, then 4."""
-    control = octets.number(2)
-    refuse_if(not network_form(control), 4)
+# ---- the network header ------------------------------------------------------------------------
+
+def network_control(frame):
+    """The control field, behind 3 and 4."""
+    need(frame, 2)
+    control = number(frame[:2])
+    refuse_if(control & 3 not in (0, 1), 4)        # type: data or command
+    refuse_if(control >> 2 & 15 != 2, 4)           # version
+    refuse_if(control >> 6 & 3 not in (0, 1), 4)   # route discovery
+    refuse_if(control >> 8 & 1, 4)                 # multicast
+    refuse_if(control >> 14, 4)
     return control
 
 
-def network_rest(octets, control):
-    """Takes what follows the control: addresses, radius, sequence number, what is announced."""
-    for length in (2, 2, 1, 1):
-        octets.number(length)
-    for bit in (11, 12):
-        if bits(control, bit):
-            octets.number(8)
-    if bits(control, 10):
-        n = octets.number(1)
-        octets.number(1)
-        octets.number(2 * n)
-
-
-def aps_length(control):
-    """The length of an APS header, or None for a form not listed."""
-    if bits(control, 7):
-        return None
-    return APS_HEADERS.get((bits(control, 0, 2), bits(control, 2, 2), bits(control, 4)))
-
-
-def aps_control(octets):
-    """The control of an APS frame: 3, then 4."""
-    control = octets.number(1)
-    refuse_if(aps_length(control) is None, 4)
-    return control
-
-
-def aps_rest(octets, control):
-    """Takes what follows the control."""
-    octets.number(aps_length(control) - 1)
-
-
-def network_key(identifier, extended):
-    """What the network layer takes: identifier 1 with extended nonce."""
-    return (identifier, extended) == (1, 1)
-
-
-def aps_key(identifier, extended):
-    """What the APS layer takes: any identifier but 1, with the sender or without."""
-    return identifier in (0, 2, 3)
-
-
-def behind(octets, fits, given):
-    """A secured frame behind its header: 3, 5 for the control, 3 with the tag, 5 for the sender."""
-    header = octets.taken
-    control = octets.number(1)
-    identifier, extended = bits(control, 3, 2), bits(control, 5)
-    refuse_if(not fits(identifier, extended), 5)
-    counter = octets.number(4)
-    sender = octets.number(8) if extended else given
-    sequence = octets.number(1) if identifier == 1 else 0
-    aux = octets.taken - header
-    octets.number(TAG)
-    refuse_if(sender in NOBODY, 5)
-    return Secured(header, aux, control, counter, sender, sequence)
+def network_length(frame, control):
+    """The header's length, behind 3 for all that it announces."""
+    length = 8 + 8 * (control >> 11 & 1) + 8 * (control >> 12 & 1)
+    if control >> 10 & 1:                          # source route: count, index, relays
+        need(frame, length + 2)
+        length += 2 + 2 * frame[length]
+    need(frame, length)
+    return length
 
 
 def read_network(frame):
-    """A network frame to open: the length of its header, or what it announces."""
-    octets = Octets(frame)
-    control = network_control(octets)
-    network_rest(octets, control)
-    if bits(control, SECURITY_BIT[NETWORK]):
-        return behind(octets, network_key, None)
-    return octets.taken
-
-
-def read_aps(frame, given):
-    """An APS frame to open; given is the sender where the frame carries none."""
-    octets = Octets(frame)
-    control = aps_control(octets)
-    aps_rest(octets, control)
-    if bits(control, SECURITY_BIT[APS]):
-        return behind(octets, aps_key, given)
-    return octets.taken
+    """A network frame as opening reads it: its header's length, or what a secured one announces."""
+    control = network_control(frame)
+    header = network_length(frame, control)
+    if not control & NETWORK_SECURITY:
+        return header
+    need(frame, header + 1)
+    security = frame[header]
+    refuse_if(security >> 3 & 3 != 1 or not security >> 5 & 1, 5)
+    return read_auxiliary(frame, header, None)
 
 
 def read_network_plain(frame):
-    """A network frame to seal: the length of its header; a security bit already set is 4."""
-    octets = Octets(frame)
-    control = network_control(octets)
-    refuse_if(bits(control, SECURITY_BIT[NETWORK]), 4)
-    network_rest(octets, control)
-    return octets.taken
+    """The header's length of a network frame to seal."""
+    control = network_control(frame)
+    refuse_if(control & NETWORK_SECURITY, 4)
+    return network_length(frame, control)
+
+
+# ---- the APS header ----------------------------------------------------------------------------
+
+def aps_form(control):
+    """The header's length that an APS control announces, or None if the form is not listed."""
+    kind, delivery, ack_format = control & 3, control >> 2 & 3, control >> 4 & 1
+    if control >> 7:
+        return None
+    if kind == 2:
+        return {(0, 0): 8, (0, 1): 2}.get((delivery, ack_format))
+    if ack_format:
+        return None
+    return {(0, 0): 8, (0, 2): 8, (0, 3): 9, (1, 0): 2, (1, 2): 2}.get((kind, delivery))
+
+
+def aps_control(frame):
+    """Control and the header's length, behind 3 for the control field and 4."""
+    need(frame, 1)
+    length = aps_form(frame[0])
+    refuse_if(length is None, 4)
+    return frame[0], length
+
+
+def read_aps(frame, caller):
+    """An APS frame as opening reads it, the caller giving a sender for the 5-octet form."""
+    control, header = aps_control(frame)
+    need(frame, header)
+    if not control & APS_SECURITY:
+        return header
+    need(frame, header + 1)
+    refuse_if(frame[header] >> 3 & 3 == 1, 5)
+    return read_auxiliary(frame, header, caller)
 
 
 def read_aps_plain(frame):
-    """An APS frame to seal, likewise."""
-    octets = Octets(frame)
-    control = aps_control(octets)
-    refuse_if(bits(control, SECURITY_BIT[APS]), 4)
-    aps_rest(octets, control)
-    return octets.taken
+    """The header's length of an APS frame to seal."""
+    control, header = aps_control(frame)
+    refuse_if(control & APS_SECURITY, 4)
+    need(frame, header)
+    return header
+
+
+# ---- the auxiliary header ----------------------------------------------------------------------
+
+def read_auxiliary(frame, header, caller):
+    """The rest of the auxiliary header and the tag (3), then the sender (5)."""
+    control = frame[header]
+    long, numbered = control >> 5 & 1, control >> 3 & 3 == 1
+    aux = 5 + 8 * long + numbered
+    need(frame, header + aux + TAG)
+    fields = frame[header + 1:header + aux]
+    sender = number(fields[4:12]) if long else caller
+    refuse_if(nobody(sender), 5)
+    return Secured(header, aux, control, number(fields[:4]), sender,
+                   fields[12] if numbered else 0)
 
 
 def with_level(control):
-    """A security control with level 5, other bits as they are."""
+    """The security control that is worked with: level 5, other bits as received."""
     return control & ~7 | LEVEL
 
 
-def wire(number, n):
-    """A number in n octets, least octet first."""
-    return number.to_bytes(n, "little")
-
-
 def nonce(sender, counter, control):
-    """Sender and counter in wire order, and the control with level 5."""
-    return wire(sender, 8) + wire(counter, 4) + wire(with_level(control), 1)
+    """Sender and counter in wire order, then the control with level 5."""
+    return (sender.to_bytes(8, "little") + counter.to_bytes(4, "little")
+            + bytes([with_level(control)]))
 
 
 def auxiliary_header(identifier, counter, sender, sequence):
-    """The auxiliary header as sealing sends it, level 0 and extended nonce. The identifier has two
-    bits. The sequence number stands last, for the caller to leave out where it is not sent."""
-    control = bits(identifier, 0, 2) << 3 | 1 << 5
-    return wire(control, 1) + wire(counter, 4) + wire(sender, 8) + wire(sequence, 1)
+    """14 octets as sealed: level 0, extended nonce. APS sends the first 13."""
+    return (bytes([0x20 | (identifier & 3) << 3]) + counter.to_bytes(4, "little")
+            + sender.to_bytes(8, "little") + bytes([sequence]))
 
 
-def laid(out, frame, n, place, change):
-    """Out with the frame's first n octets in front, of which the one at a place, if it is there, is
-    changed. Out as it is where frame or out has fewer than n."""
-    if n > len(frame) or n > len(out):
-        return out
-    front = bytearray(frame[:n])
-    if place < n:
-        front[place] = change(front[place])
-    return bytes(front) + out[n:]
+# ---- octets laid onto an output ----------------------------------------------------------------
+# What 01 says of these is for headers that the frame has and the output can hold. Other lengths
+# leave the output as it is; that is the rule of the stored answers, not of 01.
+
+def laid(output, frame, length, change):
+    """The output with the frame's first octets, changed, laid over its start."""
+    if length > len(frame) or length > len(output):
+        return output
+    return bytes(change(bytearray(frame[:length]))) + output[length:]
 
 
-def authenticated(out, frame, h, n):
-    """The first n octets of a secured frame, with level 5 in the security control at place h."""
-    return laid(out, frame, n, h, with_level)
+def authenticated(output, frame, header, end):
+    """The frame's octets up to the auxiliary header's end, its control with level 5."""
+    def change(octets):
+        if header < len(octets):
+            octets[header] = with_level(octets[header])
+        return octets
+    return laid(output, frame, end, change)
 
 
-def plain_header(out, layer, frame, h):
-    """A header of h octets, its security bit cleared."""
-    place, bit = divmod(SECURITY_BIT[layer], 8)
-    return laid(out, frame, h, place, lambda octet: octet & ~(1 << bit))
+def marked(octets, layer, secured):
+    """A header with its security bit set or cleared, where it has that octet."""
+    place, bit = (1, NETWORK_SECURITY >> 8) if layer == NETWORK else (0, APS_SECURITY)
+    if place < len(octets):
+        octets[place] = octets[place] | bit if secured else octets[place] & ~bit
+    return octets
 
 
-def secured_header(out, layer, frame, h):
-    """A header of h octets, its security bit set."""
-    place, bit = divmod(SECURITY_BIT[layer], 8)
-    return laid(out, frame, h, place, lambda octet: octet | 1 << bit)
+def plain_header(output, layer, frame, header):
+    """The header with its security bit cleared."""
+    return laid(output, frame, header, lambda octets: marked(octets, layer, False))
+
+
+def secured_header(output, layer, frame, header):
+    """The header with its security bit set."""
+    return laid(output, frame, header, lambda octets: marked(octets, layer, True))

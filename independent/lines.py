@@ -67,6 +67,17 @@ def address(number):
     return f"{number:016x}"
 
 
+def run_of(length, start=3):
+    """Octets start, start + 7, start + 14, ... modulo 256."""
+    return bytes((7 * i + start) % 256 for i in range(length))
+
+
+def flip(octets, bit):
+    """The octets with one bit changed; bits are counted from the first octet's lowest."""
+    bit %= 8 * len(octets)
+    return bytes(o ^ (1 << bit % 8 if i == bit // 8 else 0) for i, o in enumerate(octets))
+
+
 def run_line(words, line):
     """The answer to a line, without its number. Words have readers of fields and an action that
     gives the fields behind `ok`."""
@@ -122,8 +133,8 @@ class Script:
         self.expected = {}
 
     def raw(self, line, expect=None):
-        """Adds a line as it stands."""
-        self.lines.append(line.encode("utf-8"))
+        """Adds a line as it stands, text or octets."""
+        self.lines.append(line if isinstance(line, bytes) else line.encode("utf-8"))
         if expect is not None:
             self.expected[len(self.lines)] = expect
 

@@ -1,6 +1,7 @@
-"""Compares aes.py, ccm.py and mmo.py with the published vectors and with another implementation."""
+"""Compares the model with published vectors and with another program."""
 
 import random
+import struct
 import sys
 
 sys.dont_write_bytecode = True
@@ -8,9 +9,12 @@ sys.dont_write_bytecode = True
 import aes
 import ccm
 import mmo
-from vectors import Desk, annexc, fips197, flip, ok, rfc3610, run_of
+import opening
+import tables
+from lines import flip, ok, run_of
+from vectors import Desk, annexc, fips197, rfc3610
 
-BLOCKS, CASES, SEED = 1500, 1000, 3610
+BLOCKS, CASES, FRAMES, SEED = 1500, 1000, 300, 3610
 
 
 def same(what, ours, theirs):
@@ -109,13 +113,74 @@ def against_package():
     return f"{BLOCKS} AES blocks and {CASES} CCM cases agree with package cryptography"
 
 
+def two_boards(rng, network_key, link_key):
+    """A board that seals and one that opens, with the same keys, the first with some counter."""
+    boards = []
+    own, other = rng.randrange(1, 2**63), rng.randrange(2**63, 2**64 - 1)
+    number = rng.randrange(256)
+    for address, partner in ((own, other), (other, own)):
+        board = tables.made_board(address)
+        tables.install(board, [0] * tables.ROWS, [0] * tables.ROWS, 0, number, network_key)
+        tables.switch(board, number)
+        tables.add_link(board, partner, link_key)
+        boards.append(board)
+    boards[0].outgoing = rng.randrange(2**32 - 2)
+    return boards
+
+
+def their_frame(cipher, sealing, header, control, end, payload):
+    """A secured frame whose octets are put together here and sealed by the package."""
+    fields = struct.pack("<IQ", sealing.outgoing, sealing.own)
+    nonce = struct.pack("<QIB", sealing.own, sealing.outgoing, control + 5)
+    text = cipher.encrypt(nonce, payload, header + bytes([control + 5]) + fields + end)
+    return header + bytes([control]) + fields + end + text
+
+
+def network_beside(cipher, sealing, board, payload):
+    """A network frame sealed beside the package, then opened."""
+    theirs = their_frame(cipher, sealing, b"\x48\x02" + bytes(6), 0x28,
+                         bytes([board.slots[0].number]), payload)
+    plain = b"\x48\x00" + bytes(6) + payload
+    same("network frame sealed", opening.seal_network(sealing, 116, plain), theirs)
+    given = opening.open_network(board, [0] * 64, [0] * 64, 116, theirs)
+    same("network frame opened", given, (sealing.own, 1, plain))
+
+
+def aps_beside(cipher, sealing, board, identifier, payload):
+    """An APS frame sealed beside the package, then opened."""
+    theirs = their_frame(cipher, sealing, b"\x61\x11", 0x20 | identifier << 3, b"", payload)
+    plain = b"\x41\x11" + payload
+    same("APS frame sealed", opening.seal_aps(sealing, 116, board.own, identifier, plain), theirs)
+    same("APS frame opened", opening.open_aps(board, 116, 0, theirs),
+         (sealing.own, identifier, plain))
+
+
+def frames_against_package():
+    """Both layers beside the package; what was compared."""
+    try:
+        from cryptography.hazmat.primitives.ciphers.aead import AESCCM
+    except ImportError:
+        return "no frames"
+    rng = random.Random(SEED + 1)
+    for i in range(FRAMES):
+        network_key, link_key, payload = rng.randbytes(16), rng.randbytes(16), rng.randbytes(i % 84)
+        sealing, board = two_boards(rng, network_key, link_key)
+        network_beside(AESCCM(network_key, tag_length=4), sealing, board, payload)
+        identifier = (0, 2, 3)[i % 3]
+        over = {2: b"\x00", 3: b"\x02"}.get(identifier)
+        octets = link_key if over is None else mmo.keyed(link_key, over)
+        aps_beside(AESCCM(octets, tag_length=4), sealing, board, identifier, payload)
+    return f"{FRAMES} frames of each layer sealed and opened beside it"
+
+
 def main():
     """All comparisons, then one closing line."""
     count = published()
     recovered_keys()
     bench_cases()
     tagless()
-    print(f"selfcheck: {count} published comparisons hold; {against_package()}")
+    print(f"selfcheck: {count} published comparisons hold; {against_package()}; "
+          f"{frames_against_package()}")
 
 
 if __name__ == "__main__":

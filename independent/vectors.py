@@ -5,7 +5,6 @@ vectors.py --check    exits 1 if a stored file differs from what would be writte
 vectors.py --answer   answers the script on standard input
 """
 
-import re
 import sys
 from pathlib import Path
 
@@ -13,59 +12,23 @@ sys.dont_write_bytecode = True
 
 import aes
 import ccm
+import lines
 import mmo
+from lines import Script, flip, ok, refuse_if, refused, run_of
 
 HERE = Path(__file__).resolve().parent
-STORED = HERE.parent / "crates" / "vectors"
 
-WORDS = {1: "room", 2: "long", 3: "short", 9: "forged", 14: "argument"}  # document 01's numbers
 MOST = 128       # octets of A and of P
 LENT_MOST = 256  # octets of a lent output
 
 
 # ---- the line language -------------------------------------------------------------------------
 
-class Bad(Exception):
-    """The line is none of the language's."""
-
-
-class Refused(Exception):
-    """A refusal by its number in document 01."""
-
-    def __init__(self, number):
-        super().__init__(number)
-        self.number = number
-
-
-def refuse_if(condition, number):
-    """Refuses with the number where the condition holds."""
-    if condition:
-        raise Refused(number)
-
-
-def octets_field(least, most):
-    """The reader of a hex field of least to most octets, digits of either case."""
-    def read(field):
-        if not re.fullmatch(rb"(?:[0-9A-Fa-f]{2})*", field) or not least <= len(field) // 2 <= most:
-            raise Bad
-        return bytes.fromhex(field.decode("ascii"))
-    return read
-
-
-def decimal_field(most):
-    """The reader of a decimal field from 0 to most (at most three digits), no leading zero."""
-    def read(field):
-        if not re.fullmatch(rb"0|[1-9][0-9]{0,2}", field) or int(field) > most:
-            raise Bad
-        return int(field)
-    return read
-
-
-SIXTEEN = octets_field(16, 16)
-NONCE = octets_field(13, 13)
-TEXT = octets_field(0, 256)
-DATA = octets_field(0, 512)
-TAG = decimal_field(255)
+SIXTEEN = lines.hex_field(16, 16)
+NONCE = lines.hex_field(13, 13)
+TEXT = lines.hex_field(0, 256)
+DATA = lines.hex_field(0, 512)
+TAG = lines.decimal_field(255)
 
 
 class Desk:
@@ -73,25 +36,30 @@ class Desk:
 
     def __init__(self):
         self.lent = LENT_MOST
-        self.lines = {
-            b"aes": ((SIXTEEN, SIXTEEN), aes.encipher),
+        self.words = {
+            b"aes": ((SIXTEEN, SIXTEEN), lambda *a: [aes.encipher(*a)]),
             b"seal": ((TAG, SIXTEEN, NONCE, TEXT, TEXT), self.seal),
             b"open": ((TAG, SIXTEEN, NONCE, TEXT, TEXT), self.open),
-            b"hash": ((DATA,), mmo.digest),
-            b"keyedhash": ((SIXTEEN, DATA), mmo.keyed),
-            b"lend": ((decimal_field(LENT_MOST),), self.lend),
+            b"hash": ((DATA,), lambda d: hashed(mmo.digest, d)),
+            b"keyedhash": ((SIXTEEN, DATA), lambda k, d: hashed(mmo.keyed, k, d)),
+            b"lend": ((lines.decimal_field(LENT_MOST),), self.lend),
         }
+
+    def answer(self, line):
+        """What follows the line's number."""
+        return lines.run_line(self.words, line)
 
     def lend(self, size):
         """Sets the length lent from now on; has no octets to answer."""
         self.lent = size
+        return ()
 
     def seal(self, M, key, nonce, a, p):
         """Annex A.2 behind the refusals 14, 2 and 1."""
         refuse_if(M not in ccm.TAGS, 14)
         refuse_if(len(a) > MOST or len(p) > MOST, 2)
         refuse_if(self.lent < len(p) + M, 1)
-        return ccm.seal(M, key, nonce, a, p)
+        return [ccm.seal(M, key, nonce, a, p)]
 
     def open(self, M, key, nonce, a, c):
         """Annex A.3 behind the refusals 14, 2, 3 and 1, then 9."""
@@ -101,57 +69,15 @@ class Desk:
         refuse_if(self.lent < len(c) - M, 1)
         plain = ccm.open(M, key, nonce, a, c)
         refuse_if(plain is None, 9)
-        return plain
-
-    def run(self, line):
-        """The octets that a line answers with, or None for `lend`."""
-        word, *fields = line.split(b"\t")
-        if word not in self.lines:
-            raise Bad
-        readers, action = self.lines[word]
-        if len(fields) != len(readers):
-            raise Bad
-        return action(*(read(field) for read, field in zip(readers, fields)))
-
-    def answer(self, line):
-        """What follows the line's number."""
-        try:
-            result = self.run(line)
-        except Bad:
-            return "bad"
-        except Refused as refusal:
-            return refused(refusal.number)
-        except mmo.TooLong:
-            return refused(2)
-        return "ok" if result is None else ok(result)
+        return [plain]
 
 
-def ok(octets):
-    """The answer that gives octets."""
-    return "ok\t" + octets.hex()
-
-
-def refused(number):
-    """The answer that refuses."""
-    return f"refused\t{number}\t{WORDS[number]}"
-
-
-def lines_of(script):
-    """The lines of a script; the last may lack its line feed."""
-    lines = script.split(b"\n")
-    return lines[:-1] if lines[-1] == b"" else lines
-
-
-def answers(script):
-    """The numbered answers to a script, by line number."""
-    desk = Desk()
-    return {n: desk.answer(line) for n, line in enumerate(lines_of(script), 1)
-            if line and not line.startswith(b"#")}
-
-
-def answered(script):
-    """What the program `vectors` writes for a script."""
-    return "".join(f"{n}\t{text}\n" for n, text in answers(script).items()).encode("ascii")
+def hashed(function, *arguments):
+    """The hash, or 2."""
+    try:
+        return [function(*arguments)]
+    except mmo.TooLong:
+        raise lines.Refused(2) from None
 
 
 # ---- the published vectors ---------------------------------------------------------------------
@@ -179,43 +105,6 @@ def annexc():
 
 
 # ---- the script --------------------------------------------------------------------------------
-
-class Script:
-    """Lines, and for most of them the answer that their author expects."""
-
-    def __init__(self):
-        self.lines = []
-        self.expected = {}
-
-    def raw(self, line, expect=None):
-        """Adds a line as it stands."""
-        self.lines.append(line.encode("utf-8"))
-        if expect is not None:
-            self.expected[len(self.lines)] = expect
-
-    def add(self, *fields, expect=None):
-        """Adds a line of fields; octets are written as hex."""
-        self.raw("\t".join(f.hex() if isinstance(f, bytes) else str(f) for f in fields), expect)
-
-    def group(self, title):
-        """Adds the comment that names a group."""
-        self.raw("# " + title)
-
-    def text(self):
-        """The script, its last line without a line feed."""
-        return b"\n".join(self.lines)
-
-
-def run_of(length, start=3):
-    """Octets start, start + 7, start + 14, ... modulo 256."""
-    return bytes((7 * i + start) % 256 for i in range(length))
-
-
-def flip(octets, bit):
-    """The octets with one bit changed; bits are counted from the first octet's lowest."""
-    bit %= 8 * len(octets)
-    return bytes(o ^ (1 << bit % 8 if i == bit // 8 else 0) for i, o in enumerate(octets))
-
 
 KEY = bytes(range(0x10, 0x20))
 N13 = bytes(range(0xA0, 0xAD))
@@ -376,9 +265,8 @@ def add_lends(script):
 
 
 def add_bad(script):
-    """Lines that are not the language's, and some that only look so."""
+    """Lines that are not the language's."""
     key, nonce = KEY.hex(), N13.hex()
-    c0 = ok(bytes.fromhex("ae3a102a28d43ee0d4a09e22788b206c"))  # Annex C.5.1
     script.group("bad: hex")
     for data in ("abc", "0g", "c0 ", " c0", "0xc0", "é0", "c0\r", "+c"):
         script.add("hash", data, expect="bad")
@@ -409,6 +297,12 @@ def add_bad(script):
     for line in ("sing\tc0", "HASH\tc0", "hashes\tc0", "has\tc0", " hash\tc0", "\thash\tc0", "\r",
                  " # no comment"):
         script.raw(line, "bad")
+
+
+def add_fine(script):
+    """Lines that only look bad."""
+    key, nonce = KEY.hex(), N13.hex()
+    c0 = ok(bytes.fromhex("ae3a102a28d43ee0d4a09e22788b206c"))  # Annex C.5.1
     script.group("fine: empty lines, comments, either case of hex, empty fields")
     script.raw("")
     script.raw("#")
@@ -431,56 +325,21 @@ def make_script():
     """The whole script."""
     script = Script()
     for add in (add_blocks, add_rfc3610, add_annexc, add_hashes, add_lengths, add_forged,
-                add_refusals, add_lends, add_bad):
+                add_refusals, add_lends, add_bad, add_fine):
         add(script)
     return script
-
-
-def made():
-    """Input and output of the program, every expected answer compared first."""
-    script = make_script()
-    given = answers(script.text())
-    for n, expected in script.expected.items():
-        if given.get(n) != expected:
-            sys.exit(f"line {n}: expected {expected!r}, our answer is {given.get(n)!r}")
-    return {"stdin": script.text(), "stdout": answered(script.text())}
-
-
-# ---- the command line --------------------------------------------------------------------------
-
-def check():
-    """Compares the stored files; the exit code."""
-    code = 0
-    for name, octets in made().items():
-        path = STORED / name
-        if not path.is_file():
-            print(f"crates/vectors/{name} is missing")
-            code = 1
-        elif path.read_bytes() != octets:
-            print(f"crates/vectors/{name} differs from what independent/vectors.py makes")
-            code = 1
-    return code
-
-
-def write():
-    """Writes both files; the exit code."""
-    files = made()
-    STORED.mkdir(parents=True, exist_ok=True)
-    for name, octets in files.items():
-        (STORED / name).write_bytes(octets)
-        print(f"crates/vectors/{name}: {len(lines_of(octets))} lines")
-    return 0
 
 
 def main(arguments):
     """Writes, checks or answers; the exit code."""
     if arguments == ["--answer"]:
-        sys.stdout.buffer.write(answered(sys.stdin.buffer.read()))
+        given = lines.answers(Desk(), sys.stdin.buffer.read())
+        sys.stdout.buffer.write(lines.written(given))
         return 0
     if arguments == ["--check"]:
-        return check()
+        return lines.check("vectors", lines.made(make_script(), Desk()))
     if not arguments:
-        return write()
+        return lines.write("vectors", lines.made(make_script(), Desk()))
     print(__doc__.strip())
     return 2
 

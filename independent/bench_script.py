@@ -1,0 +1,103 @@
+"""Puts the script of `bench` together, and checks that it shows what it must.
+
+Document 01, the table of refusals and their orders: which line can be refused with which number.
+"""
+
+import bench_aps
+import bench_commands
+import bench_keys
+import bench_lines
+import bench_network
+import bench_play
+import commands
+from bench_tools import Bench
+
+REFUSALS = {  # every number that a line can be refused with, by document 01
+    "board": {14},
+    "lend": set(),
+    "network": {1, 14},
+    "switch": {13},
+    "link": {10, 14},
+    "unlink": {13},
+    "forget": {1, 13, 14},
+    "open": {1, 2, 3, 4, 5, 6, 7, 8, 9, 10},
+    "openaps": {1, 2, 3, 4, 5, 6, 7, 8, 9},
+    "seal": {1, 2, 3, 4, 6, 7},
+    "sealaps": {1, 2, 3, 4, 6, 7, 14},
+    "read": {2, 3, 4, 11, 12, 14},
+    "tlv": set(),
+    "write": {1, 2, 11},
+    "hash": set(),       # 257 octets are bad before they are too long
+    "keyedhash": {2},
+    "state": set(),
+    "heard": set(),
+    "links": set(),
+}
+LEAST_LINES, MOST_LINES = 5000, 8000
+
+
+def outcomes(bench):
+    """Every word with every answer it got, a refusal told by its number and what follows it."""
+    found = set()
+    for line, answer in bench.given:
+        word = line.split(b"\t")[0].decode("latin-1")
+        kind, *rest = answer.split("\t")
+        found.add((word, kind, *((int(rest[0]), *rest[2:]) if kind == "refused" else ())))
+    return found
+
+
+def wanted():
+    """The outcomes that the script must show, and no others of a good word."""
+    for word, numbers in REFUSALS.items():
+        yield word, "ok"
+        yield word, "bad"
+        for number in numbers - {8}:
+            yield word, "refused", number
+    for word in ("open", "openaps"):
+        yield word, "refused", 8, "genuine"
+        yield word, "refused", 8, "altered"
+
+
+def check_outcomes(bench):
+    """Every outcome that document 01 allows is met, and none that it doesn't."""
+    found = {outcome for outcome in outcomes(bench) if outcome[0] in REFUSALS}
+    assert found == set(wanted()), sorted(map(str, found ^ set(wanted())))
+
+
+def check_commands(bench):
+    """Every command is read, refused with 11 and with 12, and written."""
+    given = [(line.split(b"\t"), answer.split("\t")) for line, answer in bench.given]
+    reads = [(fields[2][4:], answer) for fields, answer in given
+             if fields[0] == b"read" and answer[0] != "bad"]
+    writes = [(fields[2], answer) for fields, answer in given
+              if fields[0] == b"write" and answer[0] != "bad"]
+    for kind in commands.KINDS:
+        start, word = kind.start.hex().encode("ascii"), kind.word.encode("ascii")
+        found = [answer[:2] for octets, answer in reads if octets.startswith(start)]
+        for wanted_answer in (["ok", kind.word], ["refused", "11"], ["refused", "12"]):
+            assert wanted_answer in found, (kind.word, wanted_answer)
+        assert any(written == word and answer[0] == "ok" for written, answer in writes), word
+
+
+def check_shares(bench):
+    """At least a third of the frames open, also without those that are not secured."""
+    opens = [answer for line, answer in bench.given
+             if line.startswith((b"open\t", b"openaps\t")) and answer != "bad"]
+    accepted = [answer for answer in opens if answer.startswith("ok")]
+    secured = [answer for answer in accepted if answer.split("\t")[2] != "none"]
+    assert 3 * len(secured) >= len(opens) - (len(accepted) - len(secured)), "too few frames open"
+    assert 3 * len(accepted) >= len(opens), "too few frames open"
+    assert LEAST_LINES <= len(bench.lines) <= MOST_LINES, len(bench.lines)
+
+
+def make_script():
+    """The whole script."""
+    bench = Bench()
+    for add in (bench_lines.add_without_board, bench_lines.add_desk, bench_lines.add_bad_lines,
+                bench_lines.add_fine, bench_keys.add_keys, bench_network.add_network,
+                bench_aps.add_aps, bench_commands.add_commands, bench_play.add_play,
+                bench_lines.add_last):
+        add(bench)
+    for check in (check_outcomes, check_commands, check_shares):
+        check(bench)
+    return bench
