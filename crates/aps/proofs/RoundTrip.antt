@@ -125,7 +125,7 @@ module _ (b : Board) (f : List ℕ) (a k : ℕ) (o : List ℕ) (m : ℕ) where
       read z (plain h) e = choose Tells (named k) _ _ (λ y. for h e z y (linkOf (b .links) a)) (λ _ d. down-seal 14 d)
       read z (secured s) e = λ d. down-seal 4 d
 
-suited-named : (k : ℕ) → named k ≡ true → (k < 4) × (k ≡ 1 → ⊥)
+pub suited-named : (k : ℕ) → named k ≡ true → (k < 4) × (k ≡ 1 → ⊥)
 unfolding named
 suited-named k e =
     let b = named-most k e in

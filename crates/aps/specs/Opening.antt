@@ -52,6 +52,11 @@ withFloor b i n =
       floor = n;
     })
 
+-- the board that opening leaves: the floor of an entry, if any, is another
+abbrev pub floored : Board → Place → ℕ → Board
+floored b (At i) n = withFloor b i n
+floored b Absent n = b
+
 -- the key that a secured frame names, of an entry
 abbrev pub keyNamed : Link → Secured → List ℕ
 keyNamed l s = keyFor (l .key) (identifierOf (s .control))

@@ -13,14 +13,14 @@ use frames::Secured;
 use seals::Unsealed;
 ghost use mathlib.Core.Path.{_≡_};
 ghost use mathlib.Core.Bool.{true};
-ghost use Prim.Native.Nat.{_≤_, _<_};
+ghost use Prim.Native.Nat.{ℕ, _≤_, _<_};
 ghost use lib.ListN.{length};
 ghost use Rattle.answers.specs.Numbers.{toldOpened, turnedDown, numberOf};
 ghost use Rattle.frames.specs.Security.{identifierOf};
 ghost use Rattle.board.specs.State.{linkAt};
 ghost use Rattle.board.specs.Requests.{linkOf};
 ghost use Rattle.seals.specs.Sealing.{messageOf, sound};
-ghost use Rattle.aps.specs.Opening.{gave, withFloor, keyNamed, admitted, openedUnder, openedKeyed, openAps, lookedKeyed, lookAps};
+ghost use Rattle.aps.specs.Opening.{gave, floored, keyNamed, admitted, openedUnder, openedKeyed, openAps, lookedKeyed, lookAps};
 
 fn identifier(s: Secured) -> u8
     ensures { λ r. ⌜ r ≡ identifierOf (s .control) ⌝ }
@@ -28,54 +28,22 @@ fn identifier(s: Secured) -> u8
     frames::identifier(s.control)
 }
 
-fn with_floor(b: Board, i: usize, n: u32) -> Board
-    requires { ⌜ i < 8 ⌝ }
-    ensures { λ r. ⌜ r ≡ withFloor b i n ⌝ }
-{
-    let mut next = b;
-    let mut l = b.links[i];
-    l.floor = n;
-    next.links[i] = l;
-    next
+// What opening answers, and the entry whose floor it moves, if any. The stages below have what they
+// read of the board, not the board: each that had it would hold a copy while the cipher works.
+struct Heard {
+    answer: Opened,
+    entry: Place,
+    floor: u32,
 }
 
-fn refuse(why: Refusal, b: Board) -> After
-    ensures { λ r. ⌜ (toldOpened (r .answer) ≡ turnedDown (numberOf why)) × (r .board ≡ b) ⌝ }
+fn down(why: Refusal) -> Heard
+    ensures { λ r. ⌜ (toldOpened (r .answer) ≡ turnedDown (numberOf why)) × (r .entry ≡ Place.Absent) ⌝ }
 {
-    After {
+    Heard {
         answer: Opened::Refused(why),
-        board: b,
+        entry: Place::Absent,
+        floor: 0,
     }
-}
-
-// The tag is judged before the floor is touched.
-fn admit(b: Board, i: usize, key: [u8; 16], f: &[u8], s: Secured, out: &mut [u8]) -> After
-    requires { ⌜ (sound (now f) s ≡ true) × ((116 ≤ length (now out)) × ((s .counter < 4294967295) × (i < 8))) ⌝ }
-    ensures { λ r. ⌜ gave (toldOpened (r .answer)) (r .board) (now (out .exit)) ≡ admitted b (now (f .entry)) s (now (out .entry)) i (messageOf key (now (f .entry)) s) ⌝ }
-{
-    match seals::unseal(key, Layer::Aps, f, s, out) {
-        Unsealed::Plain(n) => {
-            let guard = Guard::Under(identifier(s));
-            let answer = Opened::Frame(n, s.sender, guard);
-            let board = with_floor(b, i, s.counter + 1);
-            After { answer, board }
-        }
-        Unsealed::Forged => refuse(Refusal::Forged, b),
-    }
-}
-
-fn open_under(b: Board, i: usize, f: &[u8], s: Secured, out: &mut [u8]) -> After
-    requires { ⌜ (sound (now f) s ≡ true) × ((116 ≤ length (now out)) × (i < 8)) ⌝ }
-    ensures { λ r. ⌜ gave (toldOpened (r .answer)) (r .board) (now (out .exit)) ≡ openedUnder b (now (f .entry)) s (now (out .entry)) i ⌝ }
-{
-    let l = b.links[i];
-    if s.counter == 4294967295 {
-        return refuse(Refusal::Top, b);
-    }
-    if s.counter < l.floor {
-        return refuse(Refusal::Stale, b);
-    }
-    admit(b, i, key_named(l, s), f, s, out)
 }
 
 // The key of an entry that a secured frame names.
@@ -86,14 +54,76 @@ fn key_named(l: Link, s: Secured) -> [u8; 16]
     key_for(key, identifier(s))
 }
 
-fn open_keyed(b: Board, f: &[u8], s: Secured, out: &mut [u8]) -> After
-    requires { ⌜ (sound (now f) s ≡ true) × (116 ≤ length (now out)) ⌝ }
-    ensures { λ r. ⌜ gave (toldOpened (r .answer)) (r .board) (now (out .exit)) ≡ openedKeyed b (now (f .entry)) s (now (out .entry)) (linkOf (b .links) (s .sender)) ⌝ }
+// The tag is judged before the floor is touched.
+fn admit(l: Link, i: usize, f: &[u8], s: Secured, out: &mut [u8]) -> Heard
+    requires { ⌜ (sound (now f) s ≡ true) × ((116 ≤ length (now out)) × ((s .counter < 4294967295) × (i < 8))) ⌝ }
+    ensures { λ r. ⌜ ((b : Board) → gave (toldOpened (r .answer)) (floored b (r .entry) (r .floor)) (now (out .exit)) ≡ admitted b (now (f .entry)) s (now (out .entry)) i (messageOf (keyNamed l s) (now (f .entry)) s)) ⌝ }
+    ensures { λ r. ⌜ ((j : ℕ) → r .entry ≡ Place.At j → j < 8) ⌝ }
 {
-    let links = b.links;
+    match seals::unseal(key_named(l, s), Layer::Aps, f, s, out) {
+        Unsealed::Plain(n) => {
+            let guard = Guard::Under(identifier(s));
+            let answer = Opened::Frame(n, s.sender, guard);
+            Heard {
+                answer,
+                entry: Place::At(i),
+                floor: s.counter + 1,
+            }
+        }
+        Unsealed::Forged => down(Refusal::Forged),
+    }
+}
+
+fn open_under(l: Link, i: usize, f: &[u8], s: Secured, out: &mut [u8]) -> Heard
+    requires { ⌜ (sound (now f) s ≡ true) × ((116 ≤ length (now out)) × (i < 8)) ⌝ }
+    ensures { λ r. ⌜ ((b : Board) → linkAt (b .links) i ≡ l → gave (toldOpened (r .answer)) (floored b (r .entry) (r .floor)) (now (out .exit)) ≡ openedUnder b (now (f .entry)) s (now (out .entry)) i) ⌝ }
+    ensures { λ r. ⌜ ((j : ℕ) → r .entry ≡ Place.At j → j < 8) ⌝ }
+{
+    if s.counter == 4294967295 {
+        return down(Refusal::Top);
+    }
+    if s.counter < l.floor {
+        return down(Refusal::Stale);
+    }
+    admit(l, i, f, s, out)
+}
+
+fn open_keyed(links: [Link; 8], f: &[u8], s: Secured, out: &mut [u8]) -> Heard
+    requires { ⌜ (sound (now f) s ≡ true) × (116 ≤ length (now out)) ⌝ }
+    ensures { λ r. ⌜ ((b : Board) → b .links ≡ links → gave (toldOpened (r .answer)) (floored b (r .entry) (r .floor)) (now (out .exit)) ≡ openedKeyed b (now (f .entry)) s (now (out .entry)) (linkOf (b .links) (s .sender))) ⌝ }
+    ensures { λ r. ⌜ ((j : ℕ) → r .entry ≡ Place.At j → j < 8) ⌝ }
+{
     match board::link_of(links, s.sender) {
-        Place::At(i) => open_under(b, i, f, s, out),
-        Place::Absent => refuse(Refusal::NoKey, b),
+        Place::At(i) => {
+            let l = links[i];
+            open_under(l, i, f, s, out)
+        }
+        Place::Absent => down(Refusal::NoKey),
+    }
+}
+
+fn open_read(links: [Link; 8], f: &[u8], given: u64, out: &mut [u8]) -> Heard
+    ensures { λ r. ⌜ ((b : Board) → b .links ≡ links → gave (toldOpened (r .answer)) (floored b (r .entry) (r .floor)) (now (out .exit)) ≡ openAps b (now (f .entry)) given (now (out .entry))) ⌝ }
+    ensures { λ r. ⌜ ((j : ℕ) → r .entry ≡ Place.At j → j < 8) ⌝ }
+{
+    if out.len() < 116 {
+        return down(Refusal::Room);
+    }
+    if 108 < f.len() {
+        return down(Refusal::Long);
+    }
+    match frames::read_aps(f, given) {
+        Read::Refused(r) => down(r),
+        Read::Plain(_) => {
+            octets::paste_at(out, 0, f);
+            let answer = Opened::Frame(f.len(), 0, Guard::Clear);
+            Heard {
+                answer,
+                entry: Place::Absent,
+                floor: 0,
+            }
+        }
+        Read::Secured(s) => open_keyed(links, f, s, out),
     }
 }
 
@@ -102,20 +132,23 @@ fn open_keyed(b: Board, f: &[u8], s: Secured, out: &mut [u8]) -> After
 pub fn open_frame(b: Board, f: &[u8], given: u64, out: &mut [u8]) -> After
     ensures { λ r. ⌜ gave (toldOpened (r .answer)) (r .board) (now (out .exit)) ≡ openAps b (now (f .entry)) given (now (out .entry)) ⌝ }
 {
-    if out.len() < 116 {
-        return refuse(Refusal::Room, b);
-    }
-    if 108 < f.len() {
-        return refuse(Refusal::Long, b);
-    }
-    match frames::read_aps(f, given) {
-        Read::Refused(r) => refuse(r, b),
-        Read::Plain(_) => {
-            octets::paste_at(out, 0, f);
-            let answer = Opened::Frame(f.len(), 0, Guard::Clear);
-            After { answer, board: b }
+    // Made before the stages run: made behind them, it would be a second copy on the stack.
+    let mut next = b;
+    let links = b.links;
+    let heard = open_read(links, f, given, out);
+    let answer = heard.answer;
+    let moved = heard.entry;
+    match moved {
+        Place::At(i) => {
+            let mut l = next.links[i];
+            l.floor = heard.floor;
+            next.links[i] = l;
         }
-        Read::Secured(s) => open_keyed(b, f, s, out),
+        Place::Absent => {}
+    }
+    After {
+        answer,
+        board: next,
     }
 }
 

@@ -1,19 +1,21 @@
-// Sealing, in document 01's order of judgement.
+// Sealing, in document 01's order of judgement. The stages have what they read of the board, not the
+// board: each that had it would hold a copy while the cipher works.
 use crate::keys::key_for;
 use answers::Refusal;
+use answers::Sealed;
 use board::Board;
+use board::Link;
 use board::Place;
 use board::Sent;
 use frames::Layer;
 use frames::Read;
-use seals::Sealed;
 ghost use mathlib.Core.Path.{_≡_};
 ghost use mathlib.Core.Bool.{true};
 ghost use Prim.Native.Nat.{_≤_};
 ghost use lib.ListN.{length};
 ghost use Rattle.answers.specs.Numbers.{toldSealed};
 ghost use Rattle.board.specs.Requests.{linkOf};
-ghost use Rattle.board.specs.Sending.{framed};
+ghost use Rattle.board.specs.Sending.{framed, after};
 ghost use Rattle.aps.specs.Sealing.{named, sealedUnder, sealedFor, sealAps};
 
 // Whether an identifier names a key of a link entry.
@@ -26,36 +28,77 @@ fn is_named(identifier: u8) -> bool
     identifier != 1
 }
 
-fn seal_under(b: Board, key: [u8; 16], k: u8, f: &[u8], h: usize, out: &mut [u8]) -> Sent
+fn seal_under(
+    outgoing: u32,
+    own: u64,
+    key: [u8; 16],
+    k: u8,
+    f: &[u8],
+    h: usize,
+    out: &mut [u8],
+) -> Sealed
     requires { ⌜ ((2 ≤ h) × (h ≤ length (now f))) × ((length (now f) ≤ 91) × ((116 ≤ length (now out)) × (named k ≡ true))) ⌝ }
-    ensures { λ r. ⌜ framed (toldSealed (r .answer)) (r .board) (now (out .exit)) ≡ sealedUnder b (now (f .entry)) (now (out .entry)) h k key ⌝ }
+    ensures { λ r. ⌜ ((b : Board) → b .outgoing ≡ outgoing → b .own ≡ own → framed (toldSealed r) (after (toldSealed r) b) (now (out .exit)) ≡ sealedUnder b (now (f .entry)) (now (out .entry)) h k key) ⌝ }
 {
-    if b.outgoing == 4294967295 {
-        return board::refuse_seal(Refusal::Top, b);
+    if outgoing == 4294967295 {
+        return Sealed::Refused(Refusal::Top);
     }
-    let own = key_for(key, k);
-    match seals::seal(own, Layer::Aps, k, b.outgoing, b.own, 0, f, h, out) {
-        Sealed::Octets(n) => {
-            let answer = answers::Sealed::Frame(n);
-            let board = board::spend(b);
-            Sent { answer, board }
-        }
-        Sealed::Nothing => board::refuse_seal(Refusal::Room, b),
+    let named = key_for(key, k);
+    match seals::seal(named, Layer::Aps, k, outgoing, own, 0, f, h, out) {
+        seals::Sealed::Octets(n) => Sealed::Frame(n),
+        seals::Sealed::Nothing => Sealed::Refused(Refusal::Room),
     }
 }
 
-fn seal_for(b: Board, a: u64, k: u8, f: &[u8], h: usize, out: &mut [u8]) -> Sent
+fn seal_for(
+    links: [Link; 8],
+    outgoing: u32,
+    own: u64,
+    a: u64,
+    k: u8,
+    f: &[u8],
+    h: usize,
+    out: &mut [u8],
+) -> Sealed
     requires { ⌜ ((2 ≤ h) × (h ≤ length (now f))) × ((length (now f) ≤ 91) × ((116 ≤ length (now out)) × (named k ≡ true))) ⌝ }
-    ensures { λ r. ⌜ framed (toldSealed (r .answer)) (r .board) (now (out .exit)) ≡ sealedFor b (now (f .entry)) (now (out .entry)) h k (linkOf (b .links) a) ⌝ }
+    ensures { λ r. ⌜ ((b : Board) → b .links ≡ links → b .outgoing ≡ outgoing → b .own ≡ own → framed (toldSealed r) (after (toldSealed r) b) (now (out .exit)) ≡ sealedFor b (now (f .entry)) (now (out .entry)) h k (linkOf (b .links) a)) ⌝ }
 {
-    let links = b.links;
     match board::link_of(links, a) {
         Place::At(i) => {
             let l = links[i];
             let key = l.key;
-            seal_under(b, key, k, f, h, out)
+            seal_under(outgoing, own, key, k, f, h, out)
         }
-        Place::Absent => board::refuse_seal(Refusal::NoKey, b),
+        Place::Absent => Sealed::Refused(Refusal::NoKey),
+    }
+}
+
+fn seal_read(
+    links: [Link; 8],
+    outgoing: u32,
+    own: u64,
+    f: &[u8],
+    a: u64,
+    k: u8,
+    out: &mut [u8],
+) -> Sealed
+    ensures { λ r. ⌜ ((b : Board) → b .links ≡ links → b .outgoing ≡ outgoing → b .own ≡ own → framed (toldSealed r) (after (toldSealed r) b) (now (out .exit)) ≡ sealAps b (now (f .entry)) a k (now (out .entry))) ⌝ }
+{
+    if out.len() < 116 {
+        return Sealed::Refused(Refusal::Room);
+    }
+    if 91 < f.len() {
+        return Sealed::Refused(Refusal::Long);
+    }
+    match frames::read_aps_plain(f) {
+        Read::Refused(r) => Sealed::Refused(r),
+        Read::Secured(_) => Sealed::Refused(Refusal::Form),
+        Read::Plain(h) => {
+            if !is_named(k) {
+                return Sealed::Refused(Refusal::Argument);
+            }
+            seal_for(links, outgoing, own, a, k, f, h, out)
+        }
     }
 }
 
@@ -65,20 +108,13 @@ fn seal_for(b: Board, a: u64, k: u8, f: &[u8], h: usize, out: &mut [u8]) -> Sent
 pub fn seal_frame(b: Board, f: &[u8], a: u64, k: u8, out: &mut [u8]) -> Sent
     ensures { λ r. ⌜ framed (toldSealed (r .answer)) (r .board) (now (out .exit)) ≡ sealAps b (now (f .entry)) a k (now (out .entry)) ⌝ }
 {
-    if out.len() < 116 {
-        return board::refuse_seal(Refusal::Room, b);
-    }
-    if 91 < f.len() {
-        return board::refuse_seal(Refusal::Long, b);
-    }
-    match frames::read_aps_plain(f) {
-        Read::Refused(r) => board::refuse_seal(r, b),
-        Read::Secured(_) => board::refuse_seal(Refusal::Form, b),
-        Read::Plain(h) => {
-            if !is_named(k) {
-                return board::refuse_seal(Refusal::Argument, b);
-            }
-            seal_for(b, a, k, f, h, out)
-        }
+    // Made before the stages run: made behind them, it would be a second copy on the stack.
+    let mut next = b;
+    let links = b.links;
+    let answer = seal_read(links, b.outgoing, b.own, f, a, k, out);
+    next.outgoing = board::counter_after(answer, b.outgoing);
+    Sent {
+        answer,
+        board: next,
     }
 }

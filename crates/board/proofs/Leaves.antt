@@ -4,7 +4,7 @@ use mathlib.Core.Path.{_≡_, ap, ap₂, _∙_}
 use mathlib.Core.List.{List}
 use Prim.Native.Nat.{ℕ}
 use Rattle.board.specs.declared.Board.{Board}
-use Rattle.board.specs.Sending.{framed}
+use Rattle.board.specs.Sending.{Framed, framed, withOutgoing, counterAfter, after}
 use Rattle.board.specs.Requests.{left, Changed, changed}
 use Rattle.answers.specs.Numbers.{Told, FrameTold}
 
@@ -12,6 +12,7 @@ pub left-all : {t u : Told} {b c : Board} {al bl fl gl : List ℕ} → changed t
 left-all {t} {u} {b} {c} {al} {bl} {fl} {gl} e p q =
     ap (λ (x : Changed). left (x .answer) (x .board) al fl) e ∙ ap₂ (λ (x y : List ℕ). left u c x y) p q
 
--- the same of a request over a frame
-pub frame-up : {t u : FrameTold} {b c : Board} (o : List ℕ) → t ≡ u → b ≡ c → framed t b o ≡ framed u c o
-frame-up o p q = ap₂ (λ (x : FrameTold) (y : Board). framed x y o) p q
+-- the board that an answer leaves, by its counter
+pub counted : (t : FrameTold) (b : Board) {n : ℕ} {o : List ℕ} {x : Framed} → n ≡ counterAfter t (b .outgoing) → framed t (after t b) o ≡ x
+    → framed t (withOutgoing b n) o ≡ x
+counted t b {n} {o} {x} e q = ap (λ (m : ℕ). framed t (withOutgoing b m) o) e ∙ q

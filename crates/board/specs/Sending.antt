@@ -6,7 +6,7 @@ use Prim.Native.Nat.{ℕ, _+_}
 use lib.Dec.{eqb}
 use Rattle.octets.specs.Choice.{if_then_else_}
 use Rattle.board.specs.declared.Board.{Board}
-use Rattle.answers.specs.Numbers.{FrameTold}
+use Rattle.answers.specs.Numbers.{FrameTold, opened, sealed, turnedDown}
 
 abbrev pub top : ℕ
 top = 4294967295
@@ -23,8 +23,21 @@ withOutgoing b n =
     }
 
 -- the counter raised by 1; at its top it stays
+abbrev pub raised : ℕ → ℕ
+raised c = if eqb c top then top else c + 1
+
 unfoldable pub spent : Board → Board
-spent b = withOutgoing b (if eqb (b .outgoing) top then top else b .outgoing + 1)
+spent b = withOutgoing b (raised (b .outgoing))
+
+-- the counter that an answer leaves: only a frame that was sealed spends one
+abbrev pub counterAfter : FrameTold → ℕ → ℕ
+counterAfter (opened n a g) c = c
+counterAfter (sealed n) c = raised c
+counterAfter (turnedDown n) c = c
+
+-- the board that an answer leaves
+abbrev pub after : FrameTold → Board → Board
+after t b = withOutgoing b (counterAfter t (b .outgoing))
 
 -- what a request over a frame answers, and the board and the output that it leaves
 pub record Framed : Type 0 where

@@ -19,8 +19,7 @@ pub use rows::find_row;
 pub use rows::forget;
 pub use rows::lists_fit;
 pub use rows::put_row;
-pub use sending::refuse_seal;
-pub use sending::spend;
+pub use sending::counter_after;
 pub use state::make;
 
 // The lowest place that was looked for.

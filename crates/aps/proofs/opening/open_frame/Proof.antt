@@ -1,89 +1,56 @@
-use mathlib.Core.Path.{sym, ap, _∙_}
+use mathlib.Core.Path.{refl}
 use native.Mathlib.Omega.{arith}
-use lib.ListN.{length}
+use Rattle.board.specs.declared.Place.the-variants.{At, Absent}
+use Rattle.aps.proofs.Admission.{moved-so}
 use borrow.Author.Needs.{needs}
-use borrow.Author.Tests.{lt-ltb, le-ltb}
-use Rattle.octets.proofs.Pasted.{pasted-onto}
-use Rattle.aps.specs.Opening.{openAps, openedRead, gave}
-use Rattle.answers.specs.declared.Guard.the-variants.{Clear}
-use Rattle.answers.specs.Numbers.{opened}
-use Rattle.frames.specs.Reading.{toldRead}
-use Rattle.aps.proofs.Admission.{give, read-sound}
 use Rattle.aps.proofs.opening.open_frame.Statement.{statement}
 use Rattle.aps.proofs.opening.open_frame.Tie as tie
 
-refuse-requires : tie.Need-refuse-requires
-refuse-requires c κs = search needs
+open-read-requires : tie.Need-open-read-requires
+open-read-requires c κs = search needs
 
-returns : tie.Need-returns
-unfolding openAps
-returns c = simp (lt-ltb _ _ (c .before .if1 .taken)) (give _ (c .refuse .ensures .0) (c .refuse .ensures .1))
+enum-known-moved : tie.Need-enum-known-moved
+enum-known-moved c = search needs
 
-refuse-requires-2 : tie.Need-refuse-requires-2
-refuse-requires-2 c κs = search needs
+mul-l : tie.Need-mul-l
+mul-l c = let h = c .before .before .before .before .before .open-read .ensures .1 (c .before .moved .given .0 .0) (c .before .moved .given .1) in omega arith
 
-returns-2 : tie.Need-returns-2
-unfolding openAps
-returns-2 c = simp (le-ltb _ _ (c .before .before .if1 .left), lt-ltb _ _ (c .before .if2 .taken)) (give _ (c .refuse2 .ensures .0) (c .refuse2 .ensures .1))
+element-copy-out-l : tie.Need-element-copy-out-l
+element-copy-out-l c = c .before .before .before .before .before .open-read .ensures .1 (c .before .moved .given .0 .0) (c .before .moved .given .1)
 
-read-aps-requires : tie.Need-read-aps-requires
-read-aps-requires c κs = search needs
+mul-l-2 : tie.Need-mul-l-2
+mul-l-2 c = let h = c .before .before .before .before .before .before .open-read .ensures .1 (c .before .before .moved .given .0 .0) (c .before .before .moved .given .1) in omega arith
 
-enum-known-r : tie.Need-enum-known-r
-enum-known-r c = search needs
-
-refuse-requires-3 : tie.Need-refuse-requires-3
-refuse-requires-3 c κs = search needs
+element-set-from-l : tie.Need-element-set-from-l
+element-set-from-l c = c .before .before .before .before .before .before .open-read .ensures .1 (c .before .before .moved .given .0 .0) (c .before .before .moved .given .1)
 
 enum-told : tie.Need-enum-told
 enum-told c = search needs
 
-paste-at-requires : tie.Need-paste-at-requires
-paste-at-requires c κs = search needs
-
-enum-known-s : tie.Need-enum-known-s
-enum-known-s c = search needs
-
-open-keyed-requires : tie.Need-open-keyed-requires
-open-keyed-requires c κs = (read-sound (c .before .before .before .before .before .before .before .before .before .args .f .now) (c .before .before .before .before .before .before .before .before .before .args .given) _ (sym (c .before .before .before .before .read-aps .ensures) ∙ ap toldRead (c .before .before .s .given .1)) (c .before .before .before .before .before .if2 .left), c .before .before .before .before .before .before .if1 .left)
-
-returns-3 : tie.Need-returns-3
-unfolding openAps openedRead
-returns-3 c = simp (le-ltb _ _ (c .before .before .before .before .before .before .if1 .left), le-ltb _ _ (c .before .before .before .before .before .if2 .left), sym (c .before .before .before .before .read-aps .ensures) ∙ ap toldRead (c .before .before .r .given .1)) (give _ (c .refuse3 .ensures .0) (c .refuse3 .ensures .1))
-
 same-length : tie.Need-same-length
 same-length c = search needs
 
-returns-4 : tie.Need-returns-4
-unfolding openAps openedRead
-returns-4 c = let y = c .before .before .before .before .before .before .before .before .before .before .before .args in
-    simp (le-ltb _ _ (c .before .before .before .before .before .before .before .before .if1 .left), le-ltb _ _ (c .before .before .before .before .before .before .before .if2 .left), sym (c .before .before .before .before .before .before .read-aps .ensures) ∙ ap toldRead (c .before .before .before .before .enum-told .given .1))
-    (ap (gave (opened (length (y .f .now)) 0 Clear) (y .b)) (pasted-onto _ (y .out .now) (y .f .now) (c .before .before .paste-at .ensures) (omega (arith, c .before .before .before .before .before .before .before .before .if1 .left, c .before .before .before .before .before .before .before .if2 .left))))
+returns : tie.Need-returns
+returns c = let h = c .before .before .before .before .before .before .open-read .result in moved-so _ (c .before .before .before .before .before .before .before .before .before .before .before .args .b) (At (c .before .before .moved .given .0 .0)) (h .entry) (h .floor) (c .before .before .moved .given .1) (c .before .before .before .before .before .before .open-read .ensures .0 (c .before .before .before .before .before .before .before .before .before .before .before .args .b) refl)
 
 same-length-2 : tie.Need-same-length-2
 same-length-2 c = search needs
 
-returns-5 : tie.Need-returns-5
-unfolding openAps openedRead
-returns-5 c = simp (le-ltb _ _ (c .before .before .before .before .before .before .before .before .before .if1 .left), le-ltb _ _ (c .before .before .before .before .before .before .before .before .if2 .left), sym (c .before .before .before .before .before .before .before .read-aps .ensures) ∙ ap toldRead (c .before .before .before .before .before .s .given .1)) (c .before .before .open-keyed .ensures)
+returns-2 : tie.Need-returns-2
+returns-2 c = let h = c .before .before .before .before .open-read .result in moved-so _ (c .before .before .before .before .before .before .before .before .before .args .b) Absent (h .entry) (h .floor) (c .enum-told .given .1) (c .before .before .before .before .open-read .ensures .0 (c .before .before .before .before .before .before .before .before .before .args .b) refl)
 
 pub open-frame-spec : {M : Type 1} → statement M
 open-frame-spec =
     tie.close
     (tie.spec
-    refuse-requires
-    returns
-    refuse-requires-2
-    returns-2
-    read-aps-requires
-    enum-known-r
-    refuse-requires-3
+    open-read-requires
+    enum-known-moved
+    mul-l
+    element-copy-out-l
+    mul-l-2
+    element-set-from-l
     enum-told
-    paste-at-requires
-    enum-known-s
-    open-keyed-requires
-    returns-3
     same-length
-    returns-4
+    returns
     same-length-2
-    returns-5)
+    returns-2)

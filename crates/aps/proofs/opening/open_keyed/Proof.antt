@@ -1,8 +1,13 @@
-use mathlib.Core.Path.{sym, _∙_}
-use borrow.Author.Needs.{needs}
+use mathlib.Core.Path.{sym, ap, _∙_}
+use mathlib.Core.List.{List}
+use native.Mathlib.Omega.{arith}
 use Rattle.aps.specs.Opening.{openedKeyed}
+use Rattle.board.specs.declared.Link.{Link}
+use Rattle.board.specs.State.{linkAt}
+use Rattle.board.specs.Requests.{linkOf}
 use Rattle.board.proofs.Found.{link-place}
-use Rattle.aps.proofs.Admission.{give}
+use Rattle.aps.proofs.Admission.{refuses, moves-none}
+use borrow.Author.Needs.{needs}
 use Rattle.aps.proofs.opening.open_keyed.Statement.{statement}
 use Rattle.aps.proofs.opening.open_keyed.Tie as tie
 
@@ -12,25 +17,33 @@ link-of-requires c κs = search needs
 enum-known-i : tie.Need-enum-known-i
 enum-known-i c = search needs
 
+mul-l : tie.Need-mul-l
+mul-l c = let h = link-place _ _ _ (sym (c .before .before .before .link-of .ensures) ∙ c .before .i .given .1) in omega arith
+
+array-copy-out-l : tie.Need-array-copy-out-l
+array-copy-out-l c = link-place _ _ _ (sym (c .before .before .before .link-of .ensures) ∙ c .before .i .given .1)
+
 open-under-requires : tie.Need-open-under-requires
-open-under-requires c κs = (c .before .before .before .before .before .before .before .before .pre .0, (c .before .before .before .before .before .before .before .before .pre .1, link-place _ _ _ (sym (c .before .before .before .before .link-of .ensures) ∙ c .before .before .i .given .1)))
+open-under-requires c κs = (c .before .before .before .before .before .before .before .before .pre .0, (c .before .before .before .before .before .before .before .before .pre .1, link-place _ _ _ (sym (c .before .before .before .before .before .link-of .ensures) ∙ c .before .before .before .i .given .1)))
 
 enum-told : tie.Need-enum-told
 enum-told c = search needs
 
-refuse-requires : tie.Need-refuse-requires
-refuse-requires c κs = search needs
+down-requires : tie.Need-down-requires
+down-requires c κs = search needs
 
 same-length : tie.Need-same-length
 same-length c = search needs
 
 returns : tie.Need-returns
 unfolding openedKeyed
-returns c = simp (sym (c .before .before .before .before .before .before .before .link-of .ensures) ∙ c .before .before .before .before .before .i .given .1) (c .before .before .open-under .ensures)
+returns c = let y = c .before .before .before .before .before .before .before .before .before .before .before .args in
+    ((λ b el. simp (ap (λ (x : List Link). linkOf x (y .s .sender)) el ∙ sym (c .before .before .before .before .before .before .before .before .link-of .ensures) ∙ c .before .before .before .before .before .before .i .given .1) (c .before .before .open-under .ensures .0 b (ap (λ (x : List Link). linkAt x (c .before .before .before .before .before .before .i .given .0 .0)) el))), c .before .before .open-under .ensures .1)
 
 returns-2 : tie.Need-returns-2
 unfolding openedKeyed
-returns-2 c = simp (sym (c .before .before .before .link-of .ensures) ∙ c .before .enum-told .given .1) (give _ (c .refuse .ensures .0) (c .refuse .ensures .1))
+returns-2 c = let y = c .before .before .before .before .before .before .args in
+    ((λ b el. simp (ap (λ (x : List Link). linkOf x (y .s .sender)) el ∙ sym (c .before .before .before .link-of .ensures) ∙ c .before .enum-told .given .1) (refuses 6 _ _ (c .down .ensures .0) (c .down .ensures .1) b)), moves-none (c .down .ensures .1))
 
 pub open-keyed-spec : {M : Type 1} → statement M
 open-keyed-spec =
@@ -38,9 +51,11 @@ open-keyed-spec =
     (tie.spec
     link-of-requires
     enum-known-i
+    mul-l
+    array-copy-out-l
     open-under-requires
     enum-told
-    refuse-requires
+    down-requires
     same-length
     returns
     returns-2)

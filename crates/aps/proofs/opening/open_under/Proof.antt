@@ -1,32 +1,26 @@
-use borrow.Author.Needs.{needs}
+use mathlib.Core.Path.{sym, ap, _∙_}
 use borrow.Author.Tests.{eq-eqb, ne-eqb, lt-ltb, le-ltb}
-use Rattle.aps.specs.Opening.{openedUnder}
-use Rattle.aps.proofs.Admission.{give}
+use Rattle.aps.specs.Opening.{openedUnder, admitted, keyNamed}
+use Rattle.aps.proofs.Admission.{refuses, moves-none}
+use Rattle.board.specs.declared.Link.{Link}
+use Rattle.seals.specs.Sealing.{messageOf}
+use borrow.Author.Needs.{needs}
 use Rattle.aps.proofs.opening.open_under.Statement.{statement}
 use Rattle.aps.proofs.opening.open_under.Tie as tie
 
-mul-l : tie.Need-mul-l
-mul-l c = search needs
-
-element-copy-out-l : tie.Need-element-copy-out-l
-element-copy-out-l c = search needs
-
-refuse-requires : tie.Need-refuse-requires
-refuse-requires c κs = search needs
+down-requires : tie.Need-down-requires
+down-requires c κs = search needs
 
 returns : tie.Need-returns
 unfolding openedUnder
-returns c = simp (eq-eqb _ _ (c .before .if1 .taken)) (give _ (c .refuse .ensures .0) (c .refuse .ensures .1))
+returns c = ((λ b el. simp (eq-eqb _ _ (c .before .if1 .taken)) (refuses 7 _ _ (c .down .ensures .0) (c .down .ensures .1) b)), moves-none (c .down .ensures .1))
 
-refuse-requires-2 : tie.Need-refuse-requires-2
-refuse-requires-2 c κs = search needs
+down-requires-2 : tie.Need-down-requires-2
+down-requires-2 c κs = search needs
 
 returns-2 : tie.Need-returns-2
 unfolding openedUnder
-returns-2 c = simp (ne-eqb _ _ (c .before .before .before .before .if1 .left), lt-ltb _ _ (c .before .if2 .taken)) (give _ (c .refuse2 .ensures .0) (c .refuse2 .ensures .1))
-
-key-named-requires : tie.Need-key-named-requires
-key-named-requires c κs = search needs
+returns-2 c = ((λ b el. simp (ne-eqb _ _ (c .before .before .before .before .if1 .left), ap (λ (l : Link). l .floor) el, lt-ltb _ _ (c .before .if2 .taken)) (refuses 8 _ _ (c .down2 .ensures .0) (c .down2 .ensures .1) b)), moves-none (c .down2 .ensures .1))
 
 admit-requires : tie.Need-admit-requires
 admit-requires c κs = search needs
@@ -36,19 +30,13 @@ same-length c = search needs
 
 returns-3 : tie.Need-returns-3
 unfolding openedUnder
-returns-3 c = simp (ne-eqb _ _ (c .before .before .before .before .before .before .before .before .if1 .left), le-ltb _ _ (c .before .before .before .before .before .if2 .left), ← c .before .before .before .before .key-named .ensures) (c .before .before .admit .ensures)
+returns-3 c = let y = c .before .before .before .before .before .before .before .before .before .before .before .args in (
+  (λ b el. simp (ne-eqb _ _ (c .before .before .before .before .before .before .before .if1 .left), ap (λ (l : Link). l .floor) el, le-ltb _ _ (c .before .before .before .before .if2 .left))
+      (c .before .before .admit .ensures .0 b ∙ ap (λ (l : Link). admitted b (y .f .now) (y .s) (y .out .now) (y .i) (messageOf (keyNamed l (y .s)) (y .f .now) (y .s))) (sym el))),
+  c .before .before .admit .ensures .1,
+)
 
 pub open-under-spec : {M : Type 1} → statement M
 open-under-spec =
     tie.close
-    (tie.spec
-    mul-l
-    element-copy-out-l
-    refuse-requires
-    returns
-    refuse-requires-2
-    returns-2
-    key-named-requires
-    admit-requires
-    same-length
-    returns-3)
+    (tie.spec down-requires returns down-requires-2 returns-2 admit-requires same-length returns-3)

@@ -1,9 +1,12 @@
-use mathlib.Core.Path.{sym, _∙_}
+use mathlib.Core.Path.{sym, ap, _∙_}
+use mathlib.Core.List.{List}
 use native.Mathlib.Omega.{arith}
-use borrow.Author.Needs.{needs}
-use Rattle.aps.specs.Sealing.{sealedFor}
-use Rattle.board.proofs.Leaves.{frame-up}
+use Rattle.aps.specs.Sealing.{sealedFor, sealedUnder}
+use Rattle.board.specs.declared.Link.{Link}
+use Rattle.board.specs.State.{linkAt}
+use Rattle.board.specs.Requests.{linkOf}
 use Rattle.board.proofs.Found.{link-place}
+use borrow.Author.Needs.{needs}
 use Rattle.aps.proofs.sealing.seal_for.Statement.{statement}
 use Rattle.aps.proofs.sealing.seal_for.Tie as tie
 
@@ -25,19 +28,18 @@ seal-under-requires c κs = search needs
 enum-told : tie.Need-enum-told
 enum-told c = search needs
 
-refuse-seal-requires : tie.Need-refuse-seal-requires
-refuse-seal-requires c κs = search needs
-
 same-length : tie.Need-same-length
 same-length c = search needs
 
 returns : tie.Need-returns
 unfolding sealedFor
-returns c = simp (sym (c .before .before .before .before .before .before .before .before .before .link-of .ensures) ∙ c .before .before .before .before .before .before .before .i .given .1) (c .before .before .seal-under .ensures)
+returns c = λ b el en eo. let y = c .before .before .before .before .before .before .before .before .before .before .before .before .args in
+    simp (ap (λ (x : List Link). linkOf x (y .a)) el ∙ sym (c .before .before .before .before .before .before .before .before .before .link-of .ensures) ∙ c .before .before .before .before .before .before .before .i .given .1)
+    (c .before .before .seal-under .ensures b en eo ∙ ap (λ (x : List Link). sealedUnder b (y .f .now) (y .out .now) (y .h) (y .k) (linkAt x (c .before .before .before .before .before .before .before .i .given .0 .0) .key)) (sym el))
 
 returns-2 : tie.Need-returns-2
 unfolding sealedFor
-returns-2 c = simp (sym (c .before .before .before .link-of .ensures) ∙ c .before .enum-told .given .1) (frame-up _ (c .refuse-seal .ensures .0) (c .refuse-seal .ensures .1))
+returns-2 c = λ b el en eo. simp (ap (λ (x : List Link). linkOf x (c .before .before .before .before .before .args .a)) el ∙ sym (c .before .before .link-of .ensures) ∙ c .enum-told .given .1)
 
 pub seal-for-spec : {M : Type 1} → statement M
 seal-for-spec =
@@ -49,7 +51,6 @@ seal-for-spec =
     array-copy-out-l
     seal-under-requires
     enum-told
-    refuse-seal-requires
     same-length
     returns
     returns-2)

@@ -1,14 +1,10 @@
-use borrow.Author.Needs.{needs}
 use Rattle.network.specs.Sealing.{sealedBy}
-use Rattle.board.proofs.Leaves.{frame-up}
+use borrow.Author.Needs.{needs}
 use Rattle.network.proofs.sealing.seal_by.Statement.{statement}
 use Rattle.network.proofs.sealing.seal_by.Tie as tie
 
 enum-told : tie.Need-enum-told
 enum-told c = search needs
-
-refuse-seal-requires : tie.Need-refuse-seal-requires
-refuse-seal-requires c κs = search needs
 
 enum-known-active : tie.Need-enum-known-active
 enum-known-active c = search needs
@@ -18,22 +14,15 @@ seal-active-requires c κs = search needs
 
 returns : tie.Need-returns
 unfolding sealedBy
-returns c = simp (c .before .enum-told .given .1) (frame-up _ (c .refuse-seal .ensures .0) (c .refuse-seal .ensures .1))
+returns c = λ b es en eo. simp (c .enum-told .given .1)
 
 same-length : tie.Need-same-length
 same-length c = search needs
 
 returns-2 : tie.Need-returns-2
-returns-2 c = simp (c .before .before .before .before .before .active .given .1) (c .before .before .seal-active .ensures)
+returns-2 c = λ b es en eo. simp (c .before .before .before .before .before .active .given .1) (c .before .before .seal-active .ensures b es en eo)
 
 pub seal-by-spec : {M : Type 1} → statement M
 seal-by-spec =
     tie.close
-    (tie.spec
-    enum-told
-    refuse-seal-requires
-    enum-known-active
-    seal-active-requires
-    returns
-    same-length
-    returns-2)
+    (tie.spec enum-told enum-known-active seal-active-requires returns same-length returns-2)

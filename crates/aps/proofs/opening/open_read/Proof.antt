@@ -1,0 +1,91 @@
+use mathlib.Core.Path.{sym, ap, refl, _∙_}
+use native.Mathlib.Omega.{arith}
+use lib.ListN.{length}
+use borrow.Author.Tests.{lt-ltb, le-ltb}
+use Rattle.octets.proofs.Pasted.{pasted-onto}
+use Rattle.aps.specs.Opening.{openAps, openedRead, gave}
+use Rattle.answers.specs.declared.Guard.the-variants.{Clear}
+use Rattle.answers.specs.Numbers.{opened}
+use Rattle.frames.specs.Reading.{toldRead}
+use Rattle.aps.proofs.Admission.{refuses, moves-none, read-sound}
+use borrow.Author.Needs.{needs}
+use Rattle.aps.proofs.opening.open_read.Statement.{statement}
+use Rattle.aps.proofs.opening.open_read.Tie as tie
+
+down-requires : tie.Need-down-requires
+down-requires c κs = search needs
+
+returns : tie.Need-returns
+unfolding openAps
+returns c = ((λ b el. simp (lt-ltb _ _ (c .before .if1 .taken)) (refuses 1 _ _ (c .down .ensures .0) (c .down .ensures .1) b)), moves-none (c .down .ensures .1))
+
+down-requires-2 : tie.Need-down-requires-2
+down-requires-2 c κs = search needs
+
+returns-2 : tie.Need-returns-2
+unfolding openAps
+returns-2 c = ((λ b el. simp (le-ltb _ _ (c .before .before .if1 .left), lt-ltb _ _ (c .before .if2 .taken)) (refuses 2 _ _ (c .down2 .ensures .0) (c .down2 .ensures .1) b)), moves-none (c .down2 .ensures .1))
+
+read-aps-requires : tie.Need-read-aps-requires
+read-aps-requires c κs = search needs
+
+enum-known-r : tie.Need-enum-known-r
+enum-known-r c = search needs
+
+down-requires-3 : tie.Need-down-requires-3
+down-requires-3 c κs = search needs
+
+enum-told : tie.Need-enum-told
+enum-told c = search needs
+
+paste-at-requires : tie.Need-paste-at-requires
+paste-at-requires c κs = search needs
+
+enum-known-s : tie.Need-enum-known-s
+enum-known-s c = search needs
+
+open-keyed-requires : tie.Need-open-keyed-requires
+open-keyed-requires c κs = (read-sound (c .before .before .before .before .before .before .before .before .before .args .f .now) (c .before .before .before .before .before .before .before .before .before .args .given) _ (sym (c .before .before .before .before .read-aps .ensures) ∙ ap toldRead (c .before .before .s .given .1)) (c .before .before .before .before .before .if2 .left), c .before .before .before .before .before .before .if1 .left)
+
+returns-3 : tie.Need-returns-3
+unfolding openAps openedRead
+returns-3 c = ((λ b el. simp (le-ltb _ _ (c .before .before .before .before .before .before .if1 .left), le-ltb _ _ (c .before .before .before .before .before .if2 .left), sym (c .before .before .before .before .read-aps .ensures) ∙ ap toldRead (c .before .before .r .given .1)) (refuses _ _ _ (c .down3 .ensures .0) (c .down3 .ensures .1) b)), moves-none (c .down3 .ensures .1))
+
+same-length : tie.Need-same-length
+same-length c = search needs
+
+returns-4 : tie.Need-returns-4
+unfolding openAps openedRead
+returns-4 c = let y = c .before .before .before .before .before .before .before .before .before .before .before .args in (
+  (λ b el. simp (le-ltb _ _ (c .before .before .before .before .before .before .before .before .if1 .left), le-ltb _ _ (c .before .before .before .before .before .before .before .if2 .left), sym (c .before .before .before .before .before .before .read-aps .ensures) ∙ ap toldRead (c .before .before .before .before .enum-told .given .1))
+      (ap (gave (opened (length (y .f .now)) 0 Clear) b) (pasted-onto _ (y .out .now) (y .f .now) (c .before .before .paste-at .ensures) (omega (arith, c .before .before .before .before .before .before .before .before .if1 .left, c .before .before .before .before .before .before .before .if2 .left))))),
+  moves-none refl,
+)
+
+same-length-2 : tie.Need-same-length-2
+same-length-2 c = search needs
+
+returns-5 : tie.Need-returns-5
+unfolding openAps openedRead
+returns-5 c = ((λ b el. simp (le-ltb _ _ (c .before .before .before .before .before .before .before .before .before .if1 .left), le-ltb _ _ (c .before .before .before .before .before .before .before .before .if2 .left), sym (c .before .before .before .before .before .before .before .read-aps .ensures) ∙ ap toldRead (c .before .before .before .before .before .s .given .1)) (c .before .before .open-keyed .ensures .0 b el)), c .before .before .open-keyed .ensures .1)
+
+pub open-read-spec : {M : Type 1} → statement M
+open-read-spec =
+    tie.close
+    (tie.spec
+    down-requires
+    returns
+    down-requires-2
+    returns-2
+    read-aps-requires
+    enum-known-r
+    down-requires-3
+    enum-told
+    paste-at-requires
+    enum-known-s
+    open-keyed-requires
+    returns-3
+    same-length
+    returns-4
+    same-length-2
+    returns-5)

@@ -1,0 +1,8 @@
+-- Demand 3.
+-- Assumes nothing.
+use Rattle.history.specs.Running.{Demand3}
+use Rattle.history.proofs.First.{first}
+use Rattle.history.proofs.Second.{second}
+
+pub demand-3 : Demand3
+demand-3 m own wide made = (first m own wide made, second m own)

@@ -1,0 +1,13 @@
+pub mod Searches
+pub mod Counters
+pub mod Freed
+pub mod Rows
+pub mod Senders
+pub mod Slots
+pub mod Links
+pub mod Ways
+pub mod Stands
+pub mod Second
+pub mod First
+pub mod Demand
+pub mod Follows

@@ -1,0 +1,5 @@
+pub mod Calls
+pub mod Told
+pub mod Story
+pub mod Statement
+pub mod Running

@@ -1,0 +1,1 @@
+// Demand 3 has no code: its definitions are in specs/, its theorems in proofs/ (docs/HISTORY.md).
