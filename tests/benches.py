@@ -123,7 +123,10 @@ class Bench:
 
     def close(self):
         """Ends the process by ending its input."""
-        self.process.stdin.close()
+        try:
+            self.process.stdin.close()
+        except BrokenPipeError:
+            pass
         try:
             self.process.wait(PATIENCE)
         except subprocess.TimeoutExpired:

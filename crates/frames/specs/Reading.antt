@@ -5,7 +5,7 @@
 use mathlib.Core.Bool.{Bool, not}
 use mathlib.Core.List.{List}
 use Prim.Native.Nat.{ℕ, _+_}
-use lib.Dec.{leb, ltb}
+use lib.Dec.{eqb, leb, ltb}
 use lib.ListN.{length}
 use Rattle.octets.specs.Choice.{if_then_else_, both}
 use Rattle.octets.specs.Lists.{at}
@@ -13,7 +13,7 @@ use Rattle.frames.specs.declared.Secured.{Secured}
 use Rattle.frames.specs.declared.Read.{Read}
 use Rattle.frames.specs.Security.{tagOctets, identifierOf, extendedOf, auxLength, counterOf, senderOf, sequenceOf}
 use Rattle.frames.specs.Network.{networkControl, networkForm, networkSecured, networkHeader, networkKeyed}
-use Rattle.frames.specs.Aps.{apsForm, apsSecured, apsHeader, apsKeyed}
+use Rattle.frames.specs.Aps.{apsType, apsForm, apsSecured, apsHeader, apsKeyed}
 use Rattle.answers.specs.Numbers.{numberOf}
 use Rattle.frames.specs.declared.Read.the-variants as reads
 use Rattle.octets.specs.Addresses.{noAddress}
@@ -86,3 +86,13 @@ readApsPlain f =
     else (if both (apsForm (at f 0)) (not (apsSecured (at f 0)))
     then readPlain f (apsHeader (at f 0))
     else refused 4)
+
+-- ---- a plain frame whose command is to be read
+
+-- "3 for the control field, 4, 3 for the header, then 4 if it is no command or has its security bit set"
+unfoldable pub readApsCommand : List ℕ → Reading
+readApsCommand f =
+    if ltb (length f) 1 then refused 3
+    else (if not (apsForm (at f 0)) then refused 4
+    else (if ltb (length f) (apsHeader (at f 0)) then refused 3
+    else (if both (eqb (apsType (at f 0)) 1) (not (apsSecured (at f 0))) then plain (apsHeader (at f 0)) else refused 4)))

@@ -11,6 +11,7 @@ pub use making::lay_authenticated;
 pub use making::lay_plain_header;
 pub use making::lay_secured_header;
 pub use reading::read_aps;
+pub use reading::read_aps_command;
 pub use reading::read_aps_plain;
 pub use reading::read_network;
 pub use reading::read_network_plain;

@@ -10,7 +10,7 @@ ghost use Prim.Native.Nat.{_≤_, _<_};
 ghost use lib.ListN.{length};
 ghost use Rattle.octets.specs.Lists.{at};
 ghost use Rattle.frames.specs.Security.{auxLength};
-ghost use Rattle.frames.specs.Reading.{toldRead, announced, readSecured, readPlain, readNetwork, readAps, readNetworkPlain, readApsPlain};
+ghost use Rattle.frames.specs.Reading.{toldRead, announced, readSecured, readPlain, readNetwork, readAps, readNetworkPlain, readApsPlain, readApsCommand};
 
 // What the auxiliary header behind h octets of header announces.
 fn announce(f: &[u8], h: usize, given: u64) -> Secured
@@ -132,4 +132,28 @@ pub fn read_aps_plain(f: &[u8]) -> Read
         return Read::Refused(Refusal::Form);
     }
     plain_behind(f, aps::header_length(c))
+}
+
+// A plain APS frame whose command is to be read.
+pub fn read_aps_command(f: &[u8]) -> Read
+    ensures { λ r. ⌜ toldRead r ≡ readApsCommand (now (f .entry)) ⌝ }
+{
+    if f.len() < 1 {
+        return Read::Refused(Refusal::Short);
+    }
+    let c = octets::octet(f, 0);
+    if !aps::form(c) {
+        return Read::Refused(Refusal::Form);
+    }
+    let h = aps::header_length(c);
+    if f.len() < h {
+        return Read::Refused(Refusal::Short);
+    }
+    if c % 4 != 1 {
+        return Read::Refused(Refusal::Form);
+    }
+    if aps::is_secured(c) {
+        return Read::Refused(Refusal::Form);
+    }
+    Read::Plain(h)
 }

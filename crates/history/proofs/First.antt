@@ -11,12 +11,12 @@ use borrow.Author.Tests.{ne-eqb}
 use Rattle.octets.proofs.Choices.{choose}
 use Rattle.octets.specs.Addresses.{noAddress}
 use Rattle.octets.specs.Lists.{Octets}
-use Rattle.history.specs.Calls.{Call, install, switch, addLink, removeLink, forget, opening, sealing, looking, Reply, answered, gave, looked, frameOf, Octetwise}
+use Rattle.history.specs.Calls.{Call, install, switch, addLink, removeLink, forget, opening, sealing, looking, writing, Reply, answered, gave, looked, frameOf, Octetwise}
 use Rattle.history.specs.Told.{Holder, Event, slot, link, removed, forgot, keyIn, sameKey, sentIn}
 use Rattle.history.specs.Story.{ifDone, taken, installing, sending, eventOf, readAt, story}
 use Rattle.history.specs.Statement.{Apart, First}
 use Rattle.history.specs.Running.{Held, byAps, bySeal, step, run, answers}
-use Rattle.history.proofs.Ways.{aps-ways, Made, network-seals, aps-seals}
+use Rattle.history.proofs.Ways.{aps-ways, Made, network-seals, aps-seals, writes}
 use Rattle.answers.specs.Numbers.{done, refused as declined}
 use Rattle.frames.specs.declared.Layer.{Layer}
 use Rattle.frames.specs.declared.Layer.the-variants.{Network, Aps}
@@ -31,6 +31,8 @@ use Rattle.board.proofs.Untouched.{install-keeps, switch-keeps, add-keeps, remo
 use Rattle.seals.specs.Sealing.{sealedFrame}
 use Rattle.seals.proofs.Again.{ToSeal, announcing, read-again, length-again}
 use Rattle.aps.specs.Opening as aps
+use Rattle.commands.specs.declared.Command.{Command}
+use Rattle.commands.specs.Writing.{counted}
 
 -- ---- counters that fall, the last one first
 
@@ -148,6 +150,10 @@ module _ (m own : ℕ) (wide : own < 2 ^ 64) (someone : noAddress own ≡ false)
   sends-aps f g o =
       aps-ways b f g o (λ (r : aps.Opening). Sends own (byAps x r .after .board) (sentIn h)) (λ n. w) (λ p. w) (λ s i n p t. kept w refl refl refl)
 
+  sends-write : (a : Bool) (c : Command) (k r o : List ℕ) → Sends own (step m (writing a c k r o) x .after .board) (sentIn h)
+  unfolding counted
+  sends-write a c k r o = writes b a c k r o (λ (w : Framed). Sends own (bySeal x w .after .board) (sentIn h)) (λ n. w) (λ n p. kept w refl refl refl)
+
   sends-step : (c : Call) → Octets (frameOf c) → Sends own (step m c x .after .board) (sentIn (eventOf h c (step m c x .reply) ∷ h))
   sends-step (install i n k) o =
       let t = install-keeps m b (x .addrs) (x .floors) i n k in
@@ -165,6 +171,7 @@ module _ (m own : ℕ) (wide : own < 2 ^ 64) (someone : noAddress own ≡ false)
   sends-step (sealing l f a k p) o = sends-seal l f a k p o
   sends-step (looking Network f g) o = w
   sends-step (looking Aps f g) o = w
+  sends-step (writing a c k r p) o = sends-write a c k r p
 
 -- ---- after any calls
 

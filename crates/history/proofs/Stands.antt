@@ -12,7 +12,7 @@ use Rattle.octets.proofs.Choices.{choose}
 use Rattle.octets.specs.Addresses.{noAddress}
 use Rattle.octets.specs.Choice.{if_then_else_, both}
 use Rattle.octets.specs.Lists.{eqList}
-use Rattle.history.specs.Calls.{Call, install, switch, addLink, removeLink, forget, opening, sealing, looking}
+use Rattle.history.specs.Calls.{Call, install, switch, addLink, removeLink, forget, opening, sealing, looking, writing}
 use Rattle.history.specs.Told.{Event, Key, slot, link, installed, nothing, key, none, keyIn, sameKey, slotFor, openedIn, sendersIn}
 use Rattle.history.specs.Story.{installing, hearing, sending, eventOf, readAt, story}
 use Rattle.history.specs.Running.{Held, held, byLists, byBoard, byRows, byNetwork, byAps, bySeal, step, start, run, answers}
@@ -22,7 +22,7 @@ use Rattle.history.proofs.Rows.{Rows, zeroes, rows-fresh}
 use Rattle.history.proofs.Senders.{row-there, hear-rows, lose-rows, clear-rows}
 use Rattle.history.proofs.Slots.{Slots, slots-fresh, keeps-same, slot-told, install-slot}
 use Rattle.history.proofs.Links.{Links, Tells, pairsAt, links-fresh, links-ext, pair-mine, pair-other, pair-free, Mine, mine, free, entry-put, entry-gone}
-use Rattle.history.proofs.Ways.{Passed, network-ways, PassedAps, aps-ways, network-seals, aps-seals}
+use Rattle.history.proofs.Ways.{Passed, network-ways, PassedAps, aps-ways, network-seals, aps-seals, writes}
 use Rattle.answers.specs.Numbers.{done}
 use Rattle.frames.specs.declared.Layer.{Layer}
 use Rattle.frames.specs.declared.Layer.the-variants.{Network, Aps}
@@ -40,6 +40,8 @@ use Rattle.board.specs.Requests.{Left, Changed, Freed, slotOf, linkOf, freeLink
 use Rattle.board.proofs.Found.{slot-place}
 use Rattle.network.specs.Opening.{floorAt, floorOf}
 use Rattle.aps.specs.Opening.{withFloor}
+use Rattle.commands.specs.declared.Command.{Command}
+use Rattle.commands.specs.Writing.{counted}
 use Rattle.board.specs.Requests as requests
 use Rattle.network.specs.Opening as network
 use Rattle.aps.specs.Opening as aps
@@ -289,6 +291,13 @@ module _ (m : ℕ) (x : Held) (h : List Event) (w : Stands m x h) where
       aps-seals b f a k o (λ (r : Framed). Stands m (bySeal x r .after) (sending Aps (bySeal x r .reply) ∷ h)) (λ n. still)
       (λ n p t. record { slots = w .slots; rows = w .rows; links = w .links })
 
+  -- the writer moves the APS counter, and nothing else
+  pub stands-write : (a : Bool) (c : Command) (k r o : List ℕ) → Stands m (step m (writing a c k r o) x .after) (nothing ∷ h)
+  unfolding counted
+  stands-write a c k r o =
+      writes b a c k r o (λ (w : Framed). Stands m (bySeal x w .after) (nothing ∷ h)) (λ n. still)
+      (λ n p. record { slots = w .slots; rows = w .rows; links = w .links })
+
 pub stands-step : (m : ℕ) (c : Call) (x : Held) (h : List Event) → Stands m x h → Stands m (step m c x .after) (eventOf h c (step m c x .reply) ∷ h)
 stands-step m (install i n k) x h w = stands-install m x h w i n k
 stands-step m (switch n) x h w = stands-switch m x h w n
@@ -300,6 +309,7 @@ stands-step m (opening Aps f g o) x h w = stands-aps m x h w f g o
 stands-step m (sealing l f a k o) x h w = stands-seal m x h w l f a k o
 stands-step m (looking Network f g) x h w = still m x h w
 stands-step m (looking Aps f g) x h w = still m x h w
+stands-step m (writing a c k r o) x h w = stands-write m x h w a c k r o
 
 -- after any calls
 pub stands : (m own : ℕ) (cs : List Call) → Stands m (run m own cs) (story (answers m own) cs)

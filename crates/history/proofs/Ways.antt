@@ -1,7 +1,7 @@
 -- The ways in which opening and sealing end, each once: what holds of every way out holds of the request.
 -- Assumes nothing.
 use mathlib.Core.Path.{_≡_, refl}
-use mathlib.Core.Bool.{true, not}
+use mathlib.Core.Bool.{Bool, true, not}
 use mathlib.Core.List.{List}
 use Prim.Native.Nat.{ℕ, _+_, _≤_}
 use native.Mathlib.Omega.{arith}
@@ -37,6 +37,10 @@ use Rattle.aps.specs.Opening.{longestAps, withFloor, keyNamed, openAps}
 use Rattle.aps.specs.Sealing.{named, sealAps}
 use Rattle.aps.proofs.Sends.{sent-named}
 use Rattle.aps.proofs.RoundTrip.{suited-named}
+use Rattle.commands.specs.declared.Command.{Command}
+use Rattle.commands.specs.Kinds.{kindOf}
+use Rattle.commands.specs.Table.{ruleOf}
+use Rattle.commands.specs.Writing.{frameOf, whole, counted, writeCommand}
 use Rattle.board.specs.declared.Active.the-variants as actives
 use Rattle.network.specs.Opening as network
 use Rattle.network.specs.Sealing as networkSeals
@@ -194,3 +198,13 @@ module _ (b : Board) (f : List ℕ) (a k : ℕ) (o : List ℕ) where
       read (refused n) e = down n
       read (plain h) e = choose P (named k) _ _ (λ u. for h e u (linkOf (b .links) a)) (λ _. down 14)
       read (secured s) e = down 4
+
+-- ---- the writer: a refusal, or a frame and the APS counter raised
+
+pub writes : (b : Board) (a : Bool) (c : Command) (k r o : List ℕ) (P : Framed → Type 0) → ((n : ℕ) → P (framed (turnedDown n) b o))
+    → ((n : ℕ) (p : List ℕ) → P (framed (sealed n) (counted b) p)) → P (writeCommand b a c k r o)
+unfolding writeCommand
+writes b a c k r o P down made =
+    choose P (ltb (length o) longestAps) _ _ (λ _. down 1) λ _.
+    choose P (not (whole (ruleOf (kindOf c)) k r)) _ _ (λ _. down 11) λ _.
+    choose P (ltb longestAps (length (frameOf b a c k r))) _ _ (λ _. down 2) (λ _. made _ _)

@@ -6,6 +6,7 @@ use Prim.Native.Nat.{ℕ}
 use Rattle.octets.specs.Lists.{Octets}
 use Rattle.answers.specs.Numbers.{Told, FrameTold}
 use Rattle.frames.specs.declared.Layer.{Layer}
+use Rattle.commands.specs.declared.Command.{Command}
 
 -- The board and the lists are what the last call left; every other argument is here, and may be anything. The network layer
 -- looks neither at a sender that the caller gives nor at a partner and a key identifier.
@@ -26,6 +27,8 @@ pub data Call : Type 0 where
   sealing : Layer → List ℕ → ℕ → ℕ → List ℕ → Call
   -- frame, the sender that the caller gives
   looking : Layer → List ℕ → ℕ → Call
+  -- whether it asks for an acknowledgement, command, its key or hash, its TLVs or inner frame, output
+  writing : Bool → Command → List ℕ → List ℕ → List ℕ → Call
 
 -- what a call answers; one that writes a frame leaves an output too
 pub data Reply : Type 0 where
@@ -47,6 +50,7 @@ frameOf (forget i a) = []
 frameOf (opening l f g o) = f
 frameOf (sealing l f a k o) = f
 frameOf (looking l f g) = f
+frameOf (writing a c k r o) = []
 
 -- frames are strings of octets, as everything is that a program can hand in
 abbrev pub Octetwise : List Call → Type 0

@@ -5,7 +5,7 @@ use mathlib.Core.Path.{_≡_}
 use mathlib.Core.List.{List, [], _∷_}
 use Prim.Native.Nat.{ℕ, _*_, _^_, _<_}
 use lib.ListN.{replicate}
-use Rattle.history.specs.Calls.{Call, install, switch, addLink, removeLink, forget, opening, sealing, looking, Reply, answered, gave, looked, Answers}
+use Rattle.history.specs.Calls.{Call, install, switch, addLink, removeLink, forget, opening, sealing, looking, writing, Reply, answered, gave, looked, Answers}
 use Rattle.history.specs.Statement.{First, Second}
 use Rattle.answers.specs.Numbers.{done}
 use Rattle.frames.specs.declared.Layer.the-variants.{Network, Aps}
@@ -17,6 +17,7 @@ use Rattle.network.specs.Opening as network
 use Rattle.network.specs.Sealing as networkSeals
 use Rattle.aps.specs.Opening as aps
 use Rattle.aps.specs.Sealing as apsSeals
+use Rattle.commands.specs.Writing as commands
 
 -- the state and the two lent lists
 pub record Held : Type 0 where
@@ -66,6 +67,7 @@ step m (sealing Network f a k o) x = bySeal x (networkSeals.sealNetwork (x .boar
 step m (sealing Aps f a k o) x = bySeal x (apsSeals.sealAps (x .board) f a k o)
 step m (looking Network f g) x = to (looked (network.lookNetwork (x .board) f)) x
 step m (looking Aps f g) x = to (looked (aps.lookAps (x .board) f g)) x
+step m (writing a c k r o) x = bySeal x (commands.writeCommand (x .board) a c k r o)
 
 -- a fresh state, and what calls leave of it
 abbrev pub start : ℕ → ℕ → Held

@@ -6,7 +6,7 @@ use mathlib.Core.List.{List, [], _∷_}
 use Prim.Native.Nat.{ℕ}
 use lib.ListN.{take}
 use Rattle.octets.specs.Choice.{if_then_else_}
-use Rattle.history.specs.Calls.{Call, install, switch, addLink, removeLink, forget, opening, sealing, looking, Reply, answered, gave, looked, Answers}
+use Rattle.history.specs.Calls.{Call, install, switch, addLink, removeLink, forget, opening, sealing, looking, writing, Reply, answered, gave, looked, Answers}
 use Rattle.history.specs.Told.{Holder, slot, link, Event, installed, removed, forgot, heard, sent, nothing, keyIn, sameKey, holderFor}
 use Rattle.answers.specs.declared.Guard.the-variants.{Clear, Under}
 use Rattle.answers.specs.Numbers.{done, refused as refused, opened, sealed, turnedDown}
@@ -60,6 +60,7 @@ eventOf h (forget i a) r = ifDone r (forgot (slot i) a)
 eventOf h (opening l f g o) r = if taken r then hearing h l (readAt l f g) else nothing
 eventOf h (sealing l f a k o) r = sending l r
 eventOf h (looking l f g) r = nothing
+eventOf h (writing a c k p o) r = nothing
 
 -- the events of calls, as a board answered them
 abbrev pub story : Answers → List Call → List Event

@@ -1,0 +1,6 @@
+pub mod One
+pub mod Bounds
+pub mod Laid
+pub mod Judging
+pub mod ReadBack
+pub mod WriteBack

@@ -1,0 +1,349 @@
+-- Reading what was written gives the command and its parts back, under a protection that the list allows.
+-- Assumes nothing.
+use mathlib.Core.Path.{_≡_, refl, sym, ap, ap₂, subst, _∙_}
+use mathlib.Core.Bool.{Bool, true, false, not}
+use mathlib.Core.List.{List, _∷_, _++_}
+use Prim.Native.Nat.{ℕ, _+_, _-_, _^_, _≤_, _<_}
+use native.Mathlib.Nat.{zero-add}
+use native.Mathlib.Omega.{arith}
+use lib.Dec.{eqb, ltb}
+use lib.ListN.{length, take, drop, take-append-drop, length-append, length-drop}
+use lib.Seq.{take-append-le, drop-append-le, drop-drop, take-at, drop-at}
+use borrow.Author.Tests.{ltb-true, ltb-false, le-ltb, eqb-true, not-false}
+use Rattle.octets.proofs.Choices.{choose}
+use Rattle.octets.proofs.Numbers.{least-spelled}
+use Rattle.octets.proofs.Tabs.{tab-at}
+use Rattle.octets.specs.Least.{numberAt}
+use Rattle.octets.specs.Lists.{at, tab}
+use Rattle.answers.specs.Numbers.{FrameTold, opened, sealed, turnedDown}
+use Rattle.answers.specs.declared.Guard.{Guard}
+use Rattle.frames.specs.Aps.{apsType, delivery, ackFormat, apsForm, apsSecured, apsHeader}
+use Rattle.frames.specs.Reading.{plain, readApsCommand}
+use Rattle.board.specs.declared.Board.{Board}
+use Rattle.board.specs.Sending.{Framed, framed}
+use Rattle.tlvs.proofs.Walks.{Inside, walked-inside}
+use Rattle.tlvs.specs.declared.Walked.{Walked}
+use Rattle.tlvs.specs.declared.Wanted.the-variants.{Tag}
+use Rattle.tlvs.specs.Looking.{walked}
+use Rattle.commands.specs.declared.Allowed.{Allowed}
+use Rattle.commands.specs.declared.Allowed.the-variants.{Clear, Only, ClearOr}
+use Rattle.commands.specs.declared.Command.{Command}
+use Rattle.commands.specs.declared.Command.the-variants.{Transport1, Transport4, Transport2, Transport3, Update, Remove, Request2, Request4, Switch, Tunnel, Verify, Confirm, Down, Up}
+use Rattle.commands.specs.declared.Kind.{Kind}
+use Rattle.commands.specs.declared.Listed.the-variants.{Is}
+use Rattle.commands.specs.declared.Place.{Place}
+use Rattle.commands.specs.declared.Secret.{Secret}
+use Rattle.commands.specs.declared.Secret.the-variants.{NoSecret, Key, Hash}
+use Rattle.commands.specs.declared.Rest.{Rest}
+use Rattle.commands.specs.declared.Rest.the-variants.{End, Tlvs, Relay, Inner}
+use Rattle.commands.specs.Kinds.{transported, requested, listed, kindOf}
+use Rattle.commands.specs.Table.{ruleOf, secretSize, fits, known, allows}
+use Rattle.commands.specs.Reading.{longest, Verdict, sound, judge, commandOf, read, answered, readCommand}
+use Rattle.commands.specs.Parts.{octetsAt, keyIn, hashIn, keyPlace, hashPlace, restPlace, tlvsIn, innerIn, tlvsPlace, innerPlace, within, valuePlace}
+use Rattle.commands.specs.Writing.{controlOf, ownOctets, frameOf, whole, counted, writeCommand}
+use Rattle.commands.specs.Reverse.{ranged, asKey, asHash, asTlvs, asInner, valueIn, GivesBack}
+use Rattle.commands.proofs.Bounds.{part-rest}
+use Rattle.commands.proofs.Judging.{judge-sound}
+use Rattle.commands.proofs.Laid.{both-parts, own-length, whole-secret, whole-rest}
+use Rattle.answers.specs.declared.Guard.the-variants as guards
+use Rattle.commands.specs.declared.Kind.the-variants as kinds
+use Rattle.tlvs.specs.declared.Walked.the-variants as walks
+
+-- ---- a protection that the list allows is one that the reader knows
+
+abbrev Knows : Allowed → Type 0
+Knows Clear = 0 ≤ 0
+Knows (Only n) = known (guards.Under n) ≡ true
+Knows (ClearOr n) = known (guards.Under n) ≡ true
+
+rule-knows : (k : Kind) → Knows (ruleOf k .under)
+unfolding ruleOf known
+rule-knows kinds.Transport1 = refl
+rule-knows kinds.Transport4 = refl
+rule-knows kinds.Transport2 = refl
+rule-knows kinds.Transport3 = refl
+rule-knows kinds.Update = refl
+rule-knows kinds.Remove = refl
+rule-knows kinds.Request2 = refl
+rule-knows kinds.Request4 = refl
+rule-knows kinds.Switch = refl
+rule-knows kinds.Tunnel = omega arith
+rule-knows kinds.Verify = omega arith
+rule-knows kinds.Confirm = refl
+rule-knows kinds.Down = refl
+rule-knows kinds.Up = refl
+
+same-known : (n m : ℕ) → known (guards.Under n) ≡ true → eqb m n ≡ true → known (guards.Under m) ≡ true
+same-known n m k e = rw (eqb-true m n e) k
+
+allowed-known : (u : Allowed) (p : Guard) → Knows u → allows u p ≡ true → known p ≡ true
+unfolding allows known
+allowed-known Clear guards.Clear k e = refl
+allowed-known Clear (guards.Under m) k e = let z : _≡_ {A = ℕ} 0 1 = cc in absurd (omega arith)
+allowed-known (Only n) guards.Clear k e = let z : _≡_ {A = ℕ} 0 1 = cc in absurd (omega arith)
+allowed-known (Only n) (guards.Under m) k e = same-known n m k e
+allowed-known (ClearOr n) guards.Clear k e = refl
+allowed-known (ClearOr n) (guards.Under m) k e = same-known n m k e
+
+-- ---- the header
+
+pub command-header : (f : List ℕ) (ack : Bool) → at f 0 ≡ controlOf ack → 2 ≤ length f → readApsCommand f ≡ plain 2
+unfolding readApsCommand apsForm apsType apsHeader apsSecured delivery ackFormat
+command-header f true e h = simp (le-ltb (length f) 1 (omega arith), e, le-ltb (length f) 2 h)
+command-header f false e h = simp (le-ltb (length f) 1 (omega arith), e, le-ltb (length f) 2 h)
+
+-- ---- identifier and type
+
+listed-own : (c : Command) (k r : List ℕ) → listed (at (ownOctets c k ++ r) 0) (at (ownOctets c k ++ r) 1) ≡ Is (kindOf c)
+unfolding ownOctets listed transported requested
+listed-own (Transport1 q d s) k r = refl
+listed-own (Transport4 d s) k r = refl
+listed-own (Transport2 a i) k r = refl
+listed-own (Transport3 a i) k r = refl
+listed-own (Update a s t) k r = refl
+listed-own (Remove a) k r = refl
+listed-own (Request2 a) k r = refl
+listed-own Request4 k r = refl
+listed-own (Switch q) k r = refl
+listed-own (Tunnel a) k r = refl
+listed-own (Verify t a) k r = refl
+listed-own (Confirm s t a) k r = refl
+listed-own Down k r = refl
+listed-own Up k r = refl
+
+-- ---- the fields
+
+spelled-back : (a : ℕ) → ltb a (2 ^ 64) ≡ true → a < 256 ^ 8
+spelled-back a e = omega (arith, ltb-true a (2 ^ 64) e)
+
+-- sixteen octets, one by one
+as-tab : (k : List ℕ) → length k ≡ 16 → tab 16 (at k) ≡ k
+as-tab k h = ap (λ (n : ℕ). tab n (at k)) (sym h) ∙ tab-at k
+
+-- sixteen octets that stand where a command has them
+abbrev SecretIs : Secret → List ℕ → List ℕ → Type 0
+SecretIs NoSecret f k = 0 ≤ length f
+SecretIs Key f k = take 16 (drop 4 f) ≡ k
+SecretIs Hash f k = take 16 (drop 12 f) ≡ k
+
+module _ (x n : ℕ) (r : List ℕ) where
+  keyed-own : (c : Command) (z : ℕ → ℕ) → ranged c ≡ true → commandOf (x ∷ n ∷ (ownOctets c (tab 16 z) ++ r)) (kindOf c) ≡ c
+  unfolding ownOctets commandOf numberAt
+  keyed-own (Transport1 q d s) z e =
+      let b = both-parts (ltb d (2 ^ 64)) (ltb s (2 ^ 64)) e in
+      ap₂ (λ (y w : ℕ). Transport1 q y w) (least-spelled 8 d (spelled-back d (b .0))) (least-spelled 8 s (spelled-back s (b .1)))
+  keyed-own (Transport4 d s) z e =
+      let b = both-parts (ltb d (2 ^ 64)) (ltb s (2 ^ 64)) e in
+      ap₂ (λ (y w : ℕ). Transport4 y w) (least-spelled 8 d (spelled-back d (b .0))) (least-spelled 8 s (spelled-back s (b .1)))
+  keyed-own (Transport2 a i) z e = ap (λ (y : ℕ). Transport2 y i) (least-spelled 8 a (spelled-back a e))
+  keyed-own (Transport3 a i) z e = ap (λ (y : ℕ). Transport3 y i) (least-spelled 8 a (spelled-back a e))
+  keyed-own (Update a s t) z e =
+      let b = both-parts (ltb a (2 ^ 64)) (ltb s (2 ^ 16)) e in
+      ap₂ (λ (y w : ℕ). Update y w t) (least-spelled 8 a (spelled-back a (b .0))) (least-spelled 2 s (omega (arith, ltb-true s (2 ^ 16) (b .1))))
+  keyed-own (Remove a) z e = ap Remove (least-spelled 8 a (spelled-back a e))
+  keyed-own (Request2 a) z e = ap Request2 (least-spelled 8 a (spelled-back a e))
+  keyed-own Request4 z e = refl
+  keyed-own (Switch q) z e = refl
+  keyed-own (Tunnel a) z e = ap Tunnel (least-spelled 8 a (spelled-back a e))
+  keyed-own (Verify t a) z e = ap (Verify t) (least-spelled 8 a (spelled-back a e))
+  keyed-own (Confirm s t a) z e = ap (Confirm s t) (least-spelled 8 a (spelled-back a e))
+  keyed-own Down z e = refl
+  keyed-own Up z e = refl
+
+  -- a fact of a command's own octets follows from that fact with sixteen octets written out; a command without them has
+  -- the same own octets whatever is lent
+  by-tab : (c : Command) (k : List ℕ) (P : List ℕ → Type 0) → length k ≡ secretSize (ruleOf (kindOf c) .secret)
+      → ((z : ℕ → ℕ) → P (ownOctets c (tab 16 z))) → P (ownOctets c k)
+  unfolding ownOctets ruleOf
+  by-tab (Transport1 q d s) k P h g = subst (λ (y : List ℕ). P (ownOctets (Transport1 q d s) y)) (as-tab k h) (g (at k))
+  by-tab (Transport4 d s) k P h g = subst (λ (y : List ℕ). P (ownOctets (Transport4 d s) y)) (as-tab k h) (g (at k))
+  by-tab (Transport2 a i) k P h g = subst (λ (y : List ℕ). P (ownOctets (Transport2 a i) y)) (as-tab k h) (g (at k))
+  by-tab (Transport3 a i) k P h g = subst (λ (y : List ℕ). P (ownOctets (Transport3 a i) y)) (as-tab k h) (g (at k))
+  by-tab (Update a s t) k P h g = g (λ _. 0)
+  by-tab (Remove a) k P h g = g (λ _. 0)
+  by-tab (Request2 a) k P h g = g (λ _. 0)
+  by-tab Request4 k P h g = g (λ _. 0)
+  by-tab (Switch q) k P h g = g (λ _. 0)
+  by-tab (Tunnel a) k P h g = g (λ _. 0)
+  by-tab (Verify t a) k P h g = subst (λ (y : List ℕ). P (ownOctets (Verify t a) y)) (as-tab k h) (g (at k))
+  by-tab (Confirm s t a) k P h g = g (λ _. 0)
+  by-tab Down k P h g = g (λ _. 0)
+  by-tab Up k P h g = g (λ _. 0)
+
+  fields-own : (c : Command) (k : List ℕ) → length k ≡ secretSize (ruleOf (kindOf c) .secret) → ranged c ≡ true
+      → commandOf (x ∷ n ∷ (ownOctets c k ++ r)) (kindOf c) ≡ c
+  fields-own c k h e = by-tab c k (λ (s : List ℕ). commandOf (x ∷ n ∷ (s ++ r)) (kindOf c) ≡ c) h (λ z. keyed-own c z e)
+
+  -- ---- key and hash
+
+  secret-own : (c : Command) (k : List ℕ) → length k ≡ secretSize (ruleOf (kindOf c) .secret)
+      → SecretIs (ruleOf (kindOf c) .secret) (x ∷ n ∷ (ownOctets c k ++ r)) k
+  unfolding ownOctets ruleOf
+  secret-own (Transport1 q d s) k h = subst (λ (y : List ℕ). take 16 (drop 4 (x ∷ n ∷ (ownOctets (Transport1 q d s) y ++ r))) ≡ y) (as-tab k h) refl
+  secret-own (Transport4 d s) k h = subst (λ (y : List ℕ). take 16 (drop 4 (x ∷ n ∷ (ownOctets (Transport4 d s) y ++ r))) ≡ y) (as-tab k h) refl
+  secret-own (Transport2 a i) k h = subst (λ (y : List ℕ). take 16 (drop 4 (x ∷ n ∷ (ownOctets (Transport2 a i) y ++ r))) ≡ y) (as-tab k h) refl
+  secret-own (Transport3 a i) k h = subst (λ (y : List ℕ). take 16 (drop 4 (x ∷ n ∷ (ownOctets (Transport3 a i) y ++ r))) ≡ y) (as-tab k h) refl
+  secret-own (Update a s t) k h = omega arith
+  secret-own (Remove a) k h = omega arith
+  secret-own (Request2 a) k h = omega arith
+  secret-own Request4 k h = omega arith
+  secret-own (Switch q) k h = omega arith
+  secret-own (Tunnel a) k h = omega arith
+  secret-own (Verify t a) k h = subst (λ (y : List ℕ). take 16 (drop 12 (x ∷ n ∷ (ownOctets (Verify t a) y ++ r))) ≡ y) (as-tab k h) refl
+  secret-own (Confirm s t a) k h = omega arith
+  secret-own Down k h = omega arith
+  secret-own Up k h = omega arith
+
+module _ (f k : List ℕ) where
+  key-cut : (s : Secret) → SecretIs s f k → octetsAt f (keyIn s) ≡ asKey s k
+  unfolding keyIn
+  key-cut NoSecret e = refl
+  key-cut Key e = e
+  key-cut Hash e = refl
+
+  hash-cut : (s : Secret) → SecretIs s f k → octetsAt f (hashIn s) ≡ asHash s k
+  unfolding hashIn
+  hash-cut NoSecret e = refl
+  hash-cut Key e = refl
+  hash-cut Hash e = e
+
+-- ---- what follows
+
+part-in : (s t : List ℕ) (i n : ℕ) → i + n ≤ length s → take n (drop i (s ++ t)) ≡ take n (drop i s)
+part-in s t i n h = ap (take n) (drop-append-le i s t (omega arith)) ∙ take-append-le n (drop i s) t (rw (length-drop i s) (omega arith))
+
+-- a part of a part
+value-cut : (f : List ℕ) (q : Place) (x : Walked) → Inside (length (octetsAt f q)) x
+    → octetsAt f (within (q .from) x) ≡ octetsAt (octetsAt f q) (within 0 x)
+value-cut f q walks.Ill h = refl
+value-cut f q walks.Absent h = refl
+value-cut f q (walks.At i n) h =
+    let l = drop (q .from) f in
+    ap (take n) (sym (drop-drop i (q .from) f))
+    ∙ ap (λ (s : List ℕ). take n (drop i s)) (sym (take-append-drop (q .count) l))
+    ∙ part-in (take (q .count) l) (drop (q .count) l) i n h
+    ∙ ap (λ (j : ℕ). take n (drop j (take (q .count) l))) (sym (zero-add i))
+
+module _ (f : List ℕ) (i : ℕ) (r : List ℕ) (e : drop i f ≡ r) where
+  rest-cut : octetsAt f (restPlace (length f) i) ≡ r
+  unfolding restPlace
+  rest-cut = part-rest i f ∙ e
+
+  tlvs-cut : (u : Rest) → octetsAt f (tlvsIn u (restPlace (length f) i)) ≡ asTlvs u r
+  unfolding tlvsIn
+  tlvs-cut End = refl
+  tlvs-cut Tlvs = rest-cut
+  tlvs-cut Relay = rest-cut
+  tlvs-cut Inner = refl
+
+  inner-cut : (u : Rest) → octetsAt f (innerIn u (restPlace (length f) i)) ≡ asInner u r
+  unfolding innerIn
+  inner-cut End = refl
+  inner-cut Tlvs = refl
+  inner-cut Relay = refl
+  inner-cut Inner = rest-cut
+
+value-back : (f : List ℕ) (q : Place) (s : List ℕ) (tag : ℕ) → octetsAt f q ≡ s → octetsAt f (valuePlace f tag q) ≡ valueIn s tag
+unfolding valuePlace
+value-back f q s tag e =
+    value-cut f q (walked (Tag tag) (octetsAt f q)) (walked-inside (Tag tag) (octetsAt f q))
+    ∙ ap (λ (y : List ℕ). valueIn y tag) e
+
+-- ---- all together
+
+module _ (b : Board) (ack : Bool) (c : Command) (k r : List ℕ) (p : Guard) where
+  -- a frame of those parts, no longer than the writer allows
+  pub frame-back : ranged c ≡ true → whole (ruleOf (kindOf c)) k r ≡ true → length (frameOf b ack c k r) ≤ longest
+      → allows (ruleOf (kindOf c) .under) p ≡ true → GivesBack (frameOf b ack c k r) p c k r
+  unfolding frameOf readCommand keyPlace hashPlace tlvsPlace innerPlace
+  frame-back e w l a =
+      record {
+        command = ap (answered f) judged ∙ ap read (fields-own x n r c k secret e);
+        key = ap (λ (v : Verdict). octetsAt f (keyPlace v)) judged ∙ key-cut f k (ruleOf (kindOf c) .secret) (secret-own x n r c k secret);
+        hash = ap (λ (v : Verdict). octetsAt f (hashPlace v)) judged ∙ hash-cut f k (ruleOf (kindOf c) .secret) (secret-own x n r c k secret);
+        tlvs = tlvs-are;
+        inner = ap (λ (v : Verdict). octetsAt f (innerPlace (length f) v)) judged ∙ inner-cut f i r behind (ruleOf (kindOf c) .rest);
+        value = λ tag. value-back f (tlvsPlace (length f) (judge f p)) (asTlvs (ruleOf (kindOf c) .rest) r) tag tlvs-are;
+      }
+    where
+      x : ℕ
+      x = controlOf ack
+
+      n : ℕ
+      n = b .aps
+
+      f : List ℕ
+      f = controlOf ack ∷ b .aps ∷ (ownOctets c k ++ r)
+
+      i : ℕ
+      i = 2 + ruleOf (kindOf c) .size
+
+      secret : length k ≡ secretSize (ruleOf (kindOf c) .secret)
+      secret = whole-secret (ruleOf (kindOf c)) k r w
+
+      own : length (ownOctets c k) ≡ ruleOf (kindOf c) .size
+      own = own-length c k secret
+
+      behind : drop (2 + ruleOf (kindOf c) .size) f ≡ r
+      behind = sym (drop-drop (ruleOf (kindOf c) .size) 2 f) ∙ drop-at (ownOctets c k) r (ruleOf (kindOf c) .size) own
+
+      long : 2 + ruleOf (kindOf c) .size ≤ length f
+      long = omega (arith, own, length-append (ownOctets c k) r)
+
+      judged : judge f p ≡ sound (kindOf c)
+      judged =
+          judge-sound f p 2 (kindOf c) (command-header f ack refl (omega (arith, long)))
+          (record {
+            protected = allowed-known (ruleOf (kindOf c) .under) p (rule-knows (kindOf c)) a;
+            short = l;
+            listing = listed-own c k r;
+            meets = record { sized = long; fitting = ap (fits (ruleOf (kindOf c) .rest)) behind ∙ whole-rest (ruleOf (kindOf c)) k r w; allowed = a };
+          })
+
+      tlvs-are : octetsAt f (tlvsPlace (length f) (judge f p)) ≡ asTlvs (ruleOf (kindOf c) .rest) r
+      tlvs-are = ap (λ (v : Verdict). octetsAt f (tlvsPlace (length f) v)) judged ∙ tlvs-cut f i r behind (ruleOf (kindOf c) .rest)
+
+-- ---- what the writer answered
+
+refused-sealed : {A : Type 0} (i n : ℕ) (b d : Board) (o m : List ℕ) → framed (turnedDown i) b o ≡ framed (sealed n) d m → A
+refused-sealed i n b d o m e =
+    let g : turnedDown i ≡ sealed n = ap (λ (x : Framed). x .answer) e in
+    let z : _≡_ {A = ℕ} 0 1 = cc in absurd (omega arith)
+
+lengthIn : Framed → ℕ
+lengthIn x = go (x .answer)
+  where
+    go : FrameTold → ℕ
+    go (sealed n) = n
+    go (turnedDown n) = n
+    go (opened n a g) = n
+
+module _ (b : Board) (ack : Bool) (c : Command) (k r o : List ℕ) (n : ℕ) (d : Board) (m : List ℕ) where
+  -- what an answer with a length tells
+  pub record Written : Type 0 where
+    pub parts : whole (ruleOf (kindOf c)) k r ≡ true
+    pub short : length (frameOf b ack c k r) ≤ longest
+    pub raised : d ≡ counted b
+    pub frame : take n m ≡ frameOf b ack c k r
+
+  pub written : writeCommand b ack c k r o ≡ framed (sealed n) d m → Written
+  unfolding writeCommand lengthIn
+  written =
+      choose (λ (x : Framed). x ≡ framed (sealed n) d m → Written) (ltb (length o) longest) _ _ (λ _ e. refused-sealed 1 n b d o m e)
+      λ _. choose (λ (x : Framed). x ≡ framed (sealed n) d m → Written) (not (whole (ruleOf (kindOf c)) k r)) _ _ (λ _ e. refused-sealed 11 n b d o m e)
+      λ w. choose (λ (x : Framed). x ≡ framed (sealed n) d m → Written) (ltb longest (length (frameOf b ack c k r))) _ _ (λ _ e. refused-sealed 2 n b d o m e)
+      λ l e. let f = frameOf b ack c k r in
+      record {
+        parts = not-false _ w;
+        short = ltb-false longest (length f) l;
+        raised = sym (ap (λ (x : Framed). x .board) e);
+        frame = ap₂ (λ (i : ℕ) (s : List ℕ). take i s) (sym (ap lengthIn e)) (sym (ap (λ (x : Framed). x .out) e)) ∙ take-at f (drop (length f) o) (length f) refl;
+      }
+
+  -- where the writer answers the length n, the first n octets of the output, read under a protection that the list allows,
+  -- give the command and its parts back
+  pub read-back : writeCommand b ack c k r o ≡ framed (sealed n) d m → ranged c ≡ true
+      → (p : Guard) → allows (ruleOf (kindOf c) .under) p ≡ true → GivesBack (take n m) p c k r
+  read-back e g p a =
+      let w = written e in
+      subst (λ (f : List ℕ). GivesBack f p c k r) (sym (w .frame)) (frame-back b ack c k r p g (w .parts) (w .short) a)

@@ -1,0 +1,22 @@
+use mathlib.Core.Path.{ap, _∙_}
+use borrow.Author.Needs.{needs}
+use Rattle.commands.specs.Parts.{cut, hashPlace}
+use Rattle.commands.proofs.Bounds.{hash-holds}
+use Rattle.commands.proofs.parts.hash_of.Statement.{statement}
+use Rattle.commands.proofs.parts.hash_of.Tie as tie
+
+judge-frame-requires : tie.Need-judge-frame-requires
+judge-frame-requires c κs = search needs
+
+hash-place-requires : tie.Need-hash-place-requires
+hash-place-requires c κs = search needs
+
+part-of-requires : tie.Need-part-of-requires
+part-of-requires c κs = hash-holds _ _ _ _ (c .before .judge-frame .ensures) (c .hash-place .ensures)
+
+returns : tie.Need-returns
+returns c = c .part-of .ensures ∙ ap (cut (c .before .before .before .before .args .f)) (c .before .hash-place .ensures ∙ ap hashPlace (c .before .before .judge-frame .ensures))
+
+pub hash-of-spec : {M : Type 1} → statement M
+hash-of-spec =
+    tie.close (tie.spec judge-frame-requires hash-place-requires part-of-requires returns)

@@ -1,0 +1,22 @@
+use mathlib.Core.Path.{ap, _∙_}
+use borrow.Author.Needs.{needs}
+use Rattle.commands.specs.Parts.{cut, innerPlace}
+use Rattle.commands.proofs.Bounds.{inner-holds}
+use Rattle.commands.proofs.parts.inner_of.Statement.{statement}
+use Rattle.commands.proofs.parts.inner_of.Tie as tie
+
+judge-frame-requires : tie.Need-judge-frame-requires
+judge-frame-requires c κs = search needs
+
+inner-place-requires : tie.Need-inner-place-requires
+inner-place-requires c κs = search needs
+
+part-of-requires : tie.Need-part-of-requires
+part-of-requires c κs = inner-holds _ _ _ _ (c .before .judge-frame .ensures) (c .inner-place .ensures)
+
+returns : tie.Need-returns
+returns c = c .part-of .ensures ∙ ap (cut (c .before .before .before .before .args .f)) (c .before .inner-place .ensures ∙ ap (innerPlace _) (c .before .before .judge-frame .ensures))
+
+pub inner-of-spec : {M : Type 1} → statement M
+inner-of-spec =
+    tie.close (tie.spec judge-frame-requires inner-place-requires part-of-requires returns)

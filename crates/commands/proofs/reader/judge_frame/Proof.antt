@@ -1,0 +1,61 @@
+use mathlib.Core.Path.{sym, ap, _∙_}
+use borrow.Author.Tests.{lt-ltb, le-ltb, not-true, not-false}
+use borrow.Author.Needs.{needs}
+use Rattle.frames.specs.Reading.{toldRead}
+use Rattle.commands.specs.Reading.{judge, judgeHeader}
+use Rattle.commands.proofs.reader.judge_frame.Statement.{statement}
+use Rattle.commands.proofs.reader.judge_frame.Tie as tie
+
+is-known-requires : tie.Need-is-known-requires
+is-known-requires c κs = search needs
+
+returns : tie.Need-returns
+unfolding judge judgeHeader
+returns c = simp (sym (c .before .is-known .ensures) ∙ not-true _ (c .if1 .taken))
+
+returns-2 : tie.Need-returns-2
+unfolding judge judgeHeader
+returns-2 c = simp (lt-ltb _ _ (c .if2 .taken), sym (c .before .before .is-known .ensures) ∙ not-false _ (c .before .if1 .left))
+
+read-aps-command-requires : tie.Need-read-aps-command-requires
+read-aps-command-requires c κs = search needs
+
+enum-known-r : tie.Need-enum-known-r
+enum-known-r c = search needs
+
+enum-told : tie.Need-enum-told
+enum-told c = search needs
+
+enum-told-2 : tie.Need-enum-told-2
+enum-told-2 c = search needs
+
+judge-listed-requires : tie.Need-judge-listed-requires
+judge-listed-requires c κs = search needs
+
+returns-3 : tie.Need-returns-3
+unfolding judge judgeHeader
+returns-3 c = simp (sym (c .before .before .before .read-aps-command .ensures) ∙ ap toldRead (c .before .r .given .1), le-ltb _ _ (c .before .before .before .before .if2 .left), sym (c .before .before .before .before .before .before .is-known .ensures) ∙ not-false _ (c .before .before .before .before .before .if1 .left))
+
+returns-4 : tie.Need-returns-4
+unfolding judge judgeHeader
+returns-4 c = simp (sym (c .before .before .read-aps-command .ensures) ∙ ap toldRead (c .enum-told .given .1), le-ltb _ _ (c .before .before .before .if2 .left), sym (c .before .before .before .before .before .is-known .ensures) ∙ not-false _ (c .before .before .before .before .if1 .left))
+
+returns-5 : tie.Need-returns-5
+unfolding judge judgeHeader
+returns-5 c = simp (c .judge-listed .ensures, sym (c .before .before .before .read-aps-command .ensures) ∙ ap toldRead (c .before .enum-told2 .given .1), le-ltb _ _ (c .before .before .before .before .if2 .left), sym (c .before .before .before .before .before .before .is-known .ensures) ∙ not-false _ (c .before .before .before .before .before .if1 .left))
+
+pub judge-frame-spec : {M : Type 1} → statement M
+judge-frame-spec =
+    tie.close
+    (tie.spec
+    is-known-requires
+    returns
+    returns-2
+    read-aps-command-requires
+    enum-known-r
+    enum-told
+    enum-told-2
+    judge-listed-requires
+    returns-3
+    returns-4
+    returns-5)

@@ -1,0 +1,44 @@
+use mathlib.Core.Path.{sym, _∙_}
+use borrow.Author.Needs.{needs}
+use Rattle.commands.specs.Reading.{judgeListed}
+use Rattle.commands.proofs.reader.judge_listed.Statement.{statement}
+use Rattle.commands.proofs.reader.judge_listed.Tie as tie
+
+octet-requires : tie.Need-octet-requires
+octet-requires c κs = search needs
+
+octet-requires-2 : tie.Need-octet-requires-2
+octet-requires-2 c κs = search needs
+
+find-kind-requires : tie.Need-find-kind-requires
+find-kind-requires c κs = search needs
+
+enum-told : tie.Need-enum-told
+enum-told c = search needs
+
+enum-known-k : tie.Need-enum-known-k
+enum-known-k c = search needs
+
+judge-kind-requires : tie.Need-judge-kind-requires
+judge-kind-requires c κs = search needs
+
+returns : tie.Need-returns
+unfolding judgeListed
+returns c = simp (sym (c .before .before .find-kind .ensures) ∙ c .enum-told .given .1, ← c .before .before .before .octet2 .ensures, ← c .before .before .before .before .octet .ensures)
+
+returns-2 : tie.Need-returns-2
+unfolding judgeListed
+returns-2 c = simp (c .judge-kind .ensures, sym (c .before .before .before .before .find-kind .ensures) ∙ c .before .before .k .given .1, ← c .before .before .before .before .before .octet2 .ensures, ← c .before .before .before .before .before .before .octet .ensures)
+
+pub judge-listed-spec : {M : Type 1} → statement M
+judge-listed-spec =
+    tie.close
+    (tie.spec
+    octet-requires
+    octet-requires-2
+    find-kind-requires
+    enum-told
+    enum-known-k
+    judge-kind-requires
+    returns
+    returns-2)

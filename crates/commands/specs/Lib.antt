@@ -1,0 +1,6 @@
+pub mod Kinds
+pub mod Table
+pub mod Reading
+pub mod Parts
+pub mod Writing
+pub mod Reverse

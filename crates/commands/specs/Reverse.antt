@@ -1,0 +1,94 @@
+-- Document 01, "The commands": "The writer does the reverse." The words in which that is said: what a frame that was written
+-- gives when it is read, and what is lent to write a frame again that was read.
+-- Assumes nothing.
+use mathlib.Core.Path.{_≡_}
+use mathlib.Core.Bool.{Bool, true}
+use mathlib.Core.List.{List, [], _++_}
+use Prim.Native.Nat.{ℕ, _^_}
+use lib.Dec.{ltb}
+use lib.ListN.{length}
+use Rattle.octets.specs.Choice.{both}
+use Rattle.answers.specs.declared.Guard.{Guard}
+use Rattle.tlvs.specs.declared.Wanted.the-variants.{Tag}
+use Rattle.tlvs.specs.Looking.{walked}
+use Rattle.commands.specs.declared.Command.{Command}
+use Rattle.commands.specs.declared.Command.the-variants.{Transport1, Transport4, Transport2, Transport3, Update, Remove, Request2, Request4, Switch, Tunnel, Verify, Confirm, Down, Up}
+use Rattle.commands.specs.declared.Secret.{Secret}
+use Rattle.commands.specs.declared.Secret.the-variants.{NoSecret, Key, Hash}
+use Rattle.commands.specs.declared.Rest.{Rest}
+use Rattle.commands.specs.declared.Rest.the-variants.{End, Tlvs, Relay, Inner}
+use Rattle.commands.specs.Kinds.{kindOf}
+use Rattle.commands.specs.Table.{ruleOf}
+use Rattle.commands.specs.Reading.{read, judge, readCommand}
+use Rattle.commands.specs.Parts.{octetsAt, keyPlace, hashPlace, tlvsPlace, innerPlace, within, valuePlace}
+
+-- ---- read what was written
+
+-- addresses of eight octets, short ones of two
+abbrev pub long : ℕ → Bool
+long a = ltb a (2 ^ 64)
+
+abbrev pub short : ℕ → Bool
+short a = ltb a (2 ^ 16)
+
+-- a command whose addresses have their size; the other numbers are octets
+abbrev pub ranged : Command → Bool
+ranged (Transport1 q d s) = both (long d) (long s)
+ranged (Transport4 d s) = both (long d) (long s)
+ranged (Transport2 a i) = long a
+ranged (Transport3 a i) = long a
+ranged (Update a s t) = both (long a) (short s)
+ranged (Remove a) = long a
+ranged (Request2 a) = long a
+ranged Request4 = true
+ranged (Switch q) = true
+ranged (Tunnel a) = long a
+ranged (Verify t a) = long a
+ranged (Confirm s t a) = long a
+ranged Down = true
+ranged Up = true
+
+-- what was lent as a key, as a hash, as TLVs, as an inner frame
+abbrev pub asKey : Secret → List ℕ → List ℕ
+asKey NoSecret k = []
+asKey Key k = k
+asKey Hash k = []
+
+abbrev pub asHash : Secret → List ℕ → List ℕ
+asHash NoSecret k = []
+asHash Key k = []
+asHash Hash k = k
+
+abbrev pub asTlvs : Rest → List ℕ → List ℕ
+asTlvs End r = []
+asTlvs Tlvs r = r
+asTlvs Relay r = r
+asTlvs Inner r = []
+
+abbrev pub asInner : Rest → List ℕ → List ℕ
+asInner End r = []
+asInner Tlvs r = []
+asInner Relay r = []
+asInner Inner r = r
+
+-- the value of the first TLV of that tag among the TLVs s
+abbrev pub valueIn : List ℕ → ℕ → List ℕ
+valueIn s tag = octetsAt s (within 0 (walked (Tag tag) s))
+
+-- the frame f, read under p, gives the command c and the parts k and r with which it was written
+pub record GivesBack (f : List ℕ) (p : Guard) (c : Command) (k r : List ℕ) : Type 0 where
+  pub command : readCommand f p ≡ read c
+  pub key : octetsAt f (keyPlace (judge f p)) ≡ asKey (ruleOf (kindOf c) .secret) k
+  pub hash : octetsAt f (hashPlace (judge f p)) ≡ asHash (ruleOf (kindOf c) .secret) k
+  pub tlvs : octetsAt f (tlvsPlace (length f) (judge f p)) ≡ asTlvs (ruleOf (kindOf c) .rest) r
+  pub inner : octetsAt f (innerPlace (length f) (judge f p)) ≡ asInner (ruleOf (kindOf c) .rest) r
+  pub value : (tag : ℕ) → octetsAt f (valuePlace f tag (tlvsPlace (length f) (judge f p))) ≡ valueIn (asTlvs (ruleOf (kindOf c) .rest) r) tag
+
+-- ---- write what was read
+
+-- the key or the hash, and the TLVs or the inner frame, that f gives under p; a command has one of each pair at most
+abbrev pub secretRead : List ℕ → Guard → List ℕ
+secretRead f p = octetsAt f (keyPlace (judge f p)) ++ octetsAt f (hashPlace (judge f p))
+
+abbrev pub restRead : List ℕ → Guard → List ℕ
+restRead f p = octetsAt f (tlvsPlace (length f) (judge f p)) ++ octetsAt f (innerPlace (length f) (judge f p))

@@ -1,0 +1,122 @@
+// APS commands: read out of a plain frame, with their parts handed back out of that frame, and
+// written.
+mod kinds;
+mod parts;
+mod reader;
+mod table;
+mod writer;
+
+use answers::Refusal;
+pub use parts::hash_of;
+pub use parts::inner_of;
+pub use parts::key_of;
+pub use parts::tlvs_of;
+pub use parts::value_of;
+pub use reader::read_command;
+pub use writer::write_command;
+
+// A command with its numbers, in the order in which they stand in the frame. Keys, hashes, inner
+// frames and TLVs are asked for alone.
+pub enum Command {
+    // sequence number, destination, source
+    Transport1(u8, u64, u64),
+    // destination, source
+    Transport4(u64, u64),
+    // partner, initiator flag
+    Transport2(u64, u8),
+    Transport3(u64, u8),
+    // device, short address, status
+    Update(u64, u16, u8),
+    // target
+    Remove(u64),
+    // partner
+    Request2(u64),
+    Request4,
+    // sequence number
+    Switch(u8),
+    // destination
+    Tunnel(u64),
+    // type, source
+    Verify(u8, u64),
+    // status, type, destination
+    Confirm(u8, u8, u64),
+    Down,
+    Up,
+}
+
+// What the reader answers.
+pub enum Reading {
+    Command(Command),
+    Refused(Refusal),
+}
+
+// A command without its numbers: a row of 01's list, by identifier and inner type.
+pub enum Kind {
+    Transport1,
+    Transport4,
+    Transport2,
+    Transport3,
+    Update,
+    Remove,
+    Request2,
+    Request4,
+    Switch,
+    Tunnel,
+    Verify,
+    Confirm,
+    Down,
+    Up,
+}
+
+enum Listed {
+    Reserved,
+    Is(Kind),
+}
+
+// The sixteen octets that a command may have.
+pub enum Secret {
+    NoSecret,
+    Key,
+    Hash,
+}
+
+// What follows a command's own octets.
+pub enum Rest {
+    End,
+    Tlvs,
+    Relay,
+    Inner,
+}
+
+// A protection that the list allows.
+pub enum Allowed {
+    Clear,
+    Only(u8),
+    ClearOr(u8),
+}
+
+// A row of 01's list; size counts from the identifier to where the rest starts.
+pub struct Rule {
+    pub size: usize,
+    pub secret: Secret,
+    pub rest: Rest,
+    pub under: Allowed,
+}
+
+// A frame judged.
+enum Judged {
+    Refused(Refusal),
+    Sound(Kind),
+}
+
+// A part of a frame.
+pub struct Place {
+    pub from: usize,
+    pub count: usize,
+}
+
+// Octets put one behind another, the first `count` of them.
+struct Line {
+    octets: [u8; 35],
+    count: usize,
+}

@@ -1,0 +1,105 @@
+// The reader, in document 01's order of judgement.
+use crate::Command;
+use crate::Judged;
+use crate::Kind;
+use crate::Listed;
+use crate::Reading;
+use crate::kinds;
+use crate::table;
+use answers::Guard;
+use answers::Refusal;
+use frames::Read;
+ghost use mathlib.Core.Path.{_≡_};
+ghost use Rattle.commands.specs.Reading.{toldJudged, judgeKind, judgeListed, judge, commandOf, toldReading, readCommand};
+ghost use Rattle.commands.specs.Kinds.{listed};
+ghost use Rattle.octets.specs.Lists.{at};
+
+// 11 and 12 of a kind that the list has.
+fn judge_kind(f: &[u8], p: Guard, k: Kind) -> Judged
+    ensures { λ r. ⌜ toldJudged r ≡ judgeKind (now (f .entry)) p k ⌝ }
+{
+    let rule = table::rule_of(k);
+    let end = 2 + rule.size;
+    if f.len() < end {
+        return Judged::Refused(Refusal::Command);
+    }
+    let rest = rule.rest;
+    if !table::fits_rest(rest, &f[end..]) {
+        return Judged::Refused(Refusal::Command);
+    }
+    let under = rule.under;
+    if !table::is_allowed(under, p) {
+        return Judged::Refused(Refusal::Protection);
+    }
+    Judged::Sound(k)
+}
+
+// The identifier; a frame that ends before it, or before its type, has 0 there, which is reserved.
+fn judge_listed(f: &[u8], p: Guard) -> Judged
+    ensures { λ r. ⌜ toldJudged r ≡ judgeListed (now (f .entry)) p (listed (at (now (f .entry)) 2) (at (now (f .entry)) 3)) ⌝ }
+{
+    match kinds::find_kind(octets::octet(f, 2), octets::octet(f, 3)) {
+        Listed::Reserved => Judged::Refused(Refusal::Command),
+        Listed::Is(k) => judge_kind(f, p, k),
+    }
+}
+
+pub(crate) fn judge_frame(f: &[u8], p: Guard) -> Judged
+    ensures { λ r. ⌜ toldJudged r ≡ judge (now (f .entry)) p ⌝ }
+{
+    if !table::is_known(p) {
+        return Judged::Refused(Refusal::Argument);
+    }
+    if 108 < f.len() {
+        return Judged::Refused(Refusal::Long);
+    }
+    match frames::read_aps_command(f) {
+        Read::Refused(r) => Judged::Refused(r),
+        Read::Secured(_) => Judged::Refused(Refusal::Form),
+        Read::Plain(_) => judge_listed(f, p),
+    }
+}
+
+// The numbers of a command of that kind; 0 for what f does not have.
+fn fields_of(f: &[u8], k: Kind) -> Command
+    ensures { λ r. ⌜ r ≡ commandOf (now (f .entry)) k ⌝ }
+{
+    match k {
+        Kind::Transport1 => Command::Transport1(
+            octets::octet(f, 20),
+            octets::number8(f, 21),
+            octets::number8(f, 29),
+        ),
+        Kind::Transport4 => Command::Transport4(octets::number8(f, 20), octets::number8(f, 28)),
+        Kind::Transport2 => Command::Transport2(octets::number8(f, 20), octets::octet(f, 28)),
+        Kind::Transport3 => Command::Transport3(octets::number8(f, 20), octets::octet(f, 28)),
+        Kind::Update => Command::Update(
+            octets::number8(f, 3),
+            octets::number2(f, 11),
+            octets::octet(f, 13),
+        ),
+        Kind::Remove => Command::Remove(octets::number8(f, 3)),
+        Kind::Request2 => Command::Request2(octets::number8(f, 4)),
+        Kind::Request4 => Command::Request4,
+        Kind::Switch => Command::Switch(octets::octet(f, 3)),
+        Kind::Tunnel => Command::Tunnel(octets::number8(f, 3)),
+        Kind::Verify => Command::Verify(octets::octet(f, 3), octets::number8(f, 4)),
+        Kind::Confirm => Command::Confirm(
+            octets::octet(f, 3),
+            octets::octet(f, 4),
+            octets::number8(f, 5),
+        ),
+        Kind::Down => Command::Down,
+        Kind::Up => Command::Up,
+    }
+}
+
+// Reads the command of a plain APS frame that came under protection p.
+pub fn read_command(f: &[u8], p: Guard) -> Reading
+    ensures { λ r. ⌜ toldReading r ≡ readCommand (now (f .entry)) p ⌝ }
+{
+    match judge_frame(f, p) {
+        Judged::Refused(r) => Reading::Refused(r),
+        Judged::Sound(k) => Reading::Command(fields_of(f, k)),
+    }
+}

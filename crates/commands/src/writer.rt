@@ -1,0 +1,204 @@
+// The writer.
+use crate::Command;
+use crate::Line;
+use crate::Rule;
+use crate::kinds;
+use crate::table;
+use answers::Refusal;
+use answers::Sealed;
+use board::Board;
+use board::Sent;
+ghost use mathlib.Core.Path.{_≡_};
+ghost use mathlib.Core.List.{[], _∷_, _++_};
+ghost use Prim.Native.Nat.{_+_, _≤_};
+ghost use lib.ListN.{length};
+ghost use Rattle.octets.specs.Least.{spelled};
+ghost use Rattle.octets.specs.Lists.{onto};
+ghost use Rattle.answers.specs.Numbers.{toldSealed, turnedDown, numberOf};
+ghost use Rattle.board.specs.Sending.{framed};
+ghost use Rattle.commands.specs.Table.{ruleOf, secretSize};
+ghost use Rattle.commands.specs.Kinds.{kindOf};
+ghost use Rattle.commands.specs.Writing.{lined, controlOf, ownOctets, whole, writeCommand};
+ghost use Rattle.commands.specs.Writing.{counted as Writing·counted};
+
+// ---- octets one behind another
+
+fn led_by(id: u8) -> Line
+    ensures { λ r. ⌜ (r .count ≡ 1) × (length (r .octets) ≡ 35) × (lined r ≡ id ∷ []) ⌝ }
+{
+    let mut octets = [0u8; 35];
+    octets[0] = id;
+    Line { octets, count: 1 }
+}
+
+fn with_octet(l: Line, v: u8) -> Line
+    requires { ⌜ (l .count + 1 ≤ 35) × (length (l .octets) ≡ 35) ⌝ }
+    ensures { λ r. ⌜ (r .count ≡ l .count + 1) × (length (r .octets) ≡ 35) × (lined r ≡ lined l ++ (v ∷ [])) ⌝ }
+{
+    let one = [v];
+    with_part(l, &one)
+}
+
+fn with_short(l: Line, v: u16) -> Line
+    requires { ⌜ (l .count + 2 ≤ 35) × (length (l .octets) ≡ 35) ⌝ }
+    ensures { λ r. ⌜ (r .count ≡ l .count + 2) × (length (r .octets) ≡ 35) × (lined r ≡ lined l ++ spelled 2 v) ⌝ }
+{
+    let two = [(v % 256) as u8, (v / 256 % 256) as u8];
+    with_part(l, &two)
+}
+
+fn with_address(l: Line, v: u64) -> Line
+    requires { ⌜ (l .count + 8 ≤ 35) × (length (l .octets) ≡ 35) ⌝ }
+    ensures { λ r. ⌜ (r .count ≡ l .count + 8) × (length (r .octets) ≡ 35) × (lined r ≡ lined l ++ spelled 8 v) ⌝ }
+{
+    let v1 = v / 256;
+    let v2 = v1 / 256;
+    let v3 = v2 / 256;
+    let v4 = v3 / 256;
+    let v5 = v4 / 256;
+    let v6 = v5 / 256;
+    let v7 = v6 / 256;
+    let eight = [
+        (v % 256) as u8,
+        (v1 % 256) as u8,
+        (v2 % 256) as u8,
+        (v3 % 256) as u8,
+        (v4 % 256) as u8,
+        (v5 % 256) as u8,
+        (v6 % 256) as u8,
+        (v7 % 256) as u8,
+    ];
+    with_part(l, &eight)
+}
+
+fn with_part(l: Line, part: &[u8]) -> Line
+    requires { ⌜ (l .count + length (now part) ≤ 35) × (length (l .octets) ≡ 35) ⌝ }
+    ensures { λ r. ⌜ (r .count ≡ l .count + length (now (part .entry))) × (length (r .octets) ≡ 35) × (lined r ≡ lined l ++ now (part .entry)) ⌝ }
+{
+    let at = l.count;
+    let mut octets = l.octets;
+    octets::paste_at(&mut octets, at, part);
+    Line {
+        octets,
+        count: at + part.len(),
+    }
+}
+
+// ---- a command's own octets
+
+fn with_key(sort: u8, key: &[u8]) -> Line
+    requires { ⌜ length (now key) ≡ 16 ⌝ }
+    ensures { λ r. ⌜ (r .count ≡ 18) × (length (r .octets) ≡ 35) × (lined r ≡ (0x05 ∷ sort ∷ []) ++ now (key .entry)) ⌝ }
+{
+    with_part(with_octet(led_by(0x05), sort), key)
+}
+
+fn own_octets(c: Command, secret: &[u8]) -> Line
+    requires { ⌜ length (now secret) ≡ secretSize (ruleOf (kindOf c) .secret) ⌝ }
+    ensures { λ r. ⌜ (r .count ≡ ruleOf (kindOf c) .size) × (length (r .octets) ≡ 35) × (lined r ≡ ownOctets c (now (secret .entry))) ⌝ }
+{
+    match c {
+        Command::Transport1(q, d, s) => with_address(
+            with_address(with_octet(with_key(1, secret), q), d),
+            s,
+        ),
+        Command::Transport4(d, s) => with_address(with_address(with_key(4, secret), d), s),
+        Command::Transport2(a, i) => with_octet(with_address(with_key(2, secret), a), i),
+        Command::Transport3(a, i) => with_octet(with_address(with_key(3, secret), a), i),
+        Command::Update(a, s, t) => with_octet(with_short(with_address(led_by(0x06), a), s), t),
+        Command::Remove(a) => with_address(led_by(0x07), a),
+        Command::Request2(a) => with_address(with_octet(led_by(0x08), 2), a),
+        Command::Request4 => with_octet(led_by(0x08), 4),
+        Command::Switch(q) => with_octet(led_by(0x09), q),
+        Command::Tunnel(a) => with_address(led_by(0x0e), a),
+        Command::Verify(t, a) => with_part(with_address(with_octet(led_by(0x0f), t), a), secret),
+        Command::Confirm(s, t, a) => with_address(with_octet(with_octet(led_by(0x10), s), t), a),
+        Command::Down => led_by(0x11),
+        Command::Up => led_by(0x12),
+    }
+}
+
+// ---- the whole frame
+
+fn control_of(ack: bool) -> u8
+    ensures { λ r. ⌜ r ≡ controlOf ack ⌝ }
+{
+    if ack { 0x41 } else { 0x01 }
+}
+
+// "after 255 comes 0"
+fn counted(b: Board) -> Board
+    ensures { λ r. ⌜ r ≡ Writing·counted b ⌝ }
+{
+    let mut next = b;
+    next.aps = std::num::wrapping_add_u8(b.aps, 1);
+    next
+}
+
+// Whether the parts lent are those that a command of that rule has.
+fn is_whole(rule: Rule, secret: &[u8], rest: &[u8]) -> bool
+    ensures { λ r. ⌜ r ≡ whole rule (now (secret .entry)) (now (rest .entry)) ⌝ }
+{
+    let s = rule.secret;
+    if secret.len() != table::secret_size(s) {
+        return false;
+    }
+    let after = rule.rest;
+    table::fits_rest(after, rest)
+}
+
+// Lays control, counter, a command's own octets and the rest at the start of out.
+fn lay(control: u8, counter: u8, own: Line, rest: &[u8], out: &mut [u8]) -> usize
+    requires { ⌜ (own .count ≤ 35) × (length (own .octets) ≡ 35) × (2 + own .count + length (now rest) ≤ length (now out)) ⌝ }
+    ensures { λ r. ⌜ (r ≡ 2 + own .count + length (now (rest .entry))) × (now (out .exit) ≡ onto (control ∷ counter ∷ (lined own ++ now (rest .entry))) (now (out .entry))) ⌝ }
+{
+    let header = [control, counter];
+    let n = own.count;
+    let octets = own.octets;
+    octets::paste_at(out, 0, &header);
+    octets::paste_at(out, 2, &octets[..n]);
+    octets::paste_at(out, 2 + n, rest);
+    2 + n + rest.len()
+}
+
+// A refusal, which leaves the board as it stood.
+fn refuse(why: Refusal, b: Board) -> Sent
+    ensures { λ r. ⌜ (toldSealed (r .answer) ≡ turnedDown (numberOf why)) × (r .board ≡ b) ⌝ }
+{
+    Sent {
+        answer: Sealed::Refused(why),
+        board: b,
+    }
+}
+
+// Writes a command with the parts that it has, the others lent empty: the frame stands at the start
+// of out, stamped with the APS counter, which is then raised. A refusal leaves the board and out as
+// they stood.
+pub fn write_command(
+    b: Board,
+    ack: bool,
+    c: Command,
+    secret: &[u8],
+    rest: &[u8],
+    out: &mut [u8],
+) -> Sent
+    ensures { λ r. ⌜ framed (toldSealed (r .answer)) (r .board) (now (out .exit)) ≡ writeCommand b ack c (now (secret .entry)) (now (rest .entry)) (now (out .entry)) ⌝ }
+{
+    if out.len() < 108 {
+        return refuse(Refusal::Room, b);
+    }
+    let rule = table::rule_of(kinds::kind_of(c));
+    if !is_whole(rule, secret, rest) {
+        return refuse(Refusal::Command, b);
+    }
+    if 106 - rule.size < rest.len() {
+        return refuse(Refusal::Long, b);
+    }
+    let own = own_octets(c, secret);
+    let next = counted(b);
+    let n = lay(control_of(ack), b.aps, own, rest, out);
+    Sent {
+        answer: Sealed::Frame(n),
+        board: next,
+    }
+}

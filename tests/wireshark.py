@@ -1,0 +1,454 @@
+#!/usr/bin/env python3
+"""Frames sealed by the bench, opened by Wireshark.
+
+    python3 tests/wireshark.py                      the repository's target/bin/bench
+    python3 tests/wireshark.py --keep frames.pcap   the same, and keeps the capture to look at
+    python3 tests/wireshark.py --bench 'python3 independent/bench.py --answer'
+
+It needs Wireshark's command `tshark` (Debian: apt-get install -y tshark), and is no part of the
+gate. A board seals network frames of many headers and lengths, and APS frames inside of network
+frames. Each is put into an IEEE 802.15.4 data frame and a capture file, and tshark, given the
+keys, deciphers it. Compared are, for each layer: the plain octets with those that were handed to
+`seal` or `sealaps`; the security control, the frame counter, the sender, the key identifier, the
+key sequence number, the tag and the key used; and what Wireshark shows of the header and of the
+command inside.
+
+The other way round, each frame is tried with each of its octets altered in one bit, at either
+layer: Wireshark must decipher none of those. Where a layer's payload is empty Wireshark has nothing
+to decipher and looks at no tag; such lines say so.
+
+One line is printed for each frame, and at last `N frames, 0 differ`. The exit code is 0, 1 where
+something differs, 2 where tshark is missing or fails.
+"""
+
+import argparse
+import os
+import re
+import shutil
+import struct
+import subprocess
+import sys
+import tempfile
+from dataclasses import dataclass, field
+from pathlib import Path
+
+sys.dont_write_bytecode = True
+
+from benches import BENCH_HELP, Bench, Differs, bench_words, flipped, give_up, least, text
+
+NETWORK_KEYS = (bytes.fromhex("abcdef01234567890000000000000000"),
+                bytes.fromhex("00112233445566778899aabbccddeeff"))
+NUMBERS = (0, 7)               # the slots' key sequence numbers
+LINK_KEYS = (b"ZigBeeAlliance09", bytes.fromhex("7e11c0de00000000000000000000a001"))
+PARTNERS = ("aaaaaaaaaaaaaaaa", "00124b00deadbeef")
+DEVICE = "00000000000000ed"    # an address that commands speak of
+SENT_KEY = bytes(range(16, 32))
+TAG, NETWORK, NONE = 4, 1, None
+LINK, TRANSPORT, LOAD = 0, 2, 3
+PLAIN = {"zbee_nwk.dst": 0x0000, "zbee_nwk.src": 0x1234, "zbee_nwk.radius": 30}
+
+
+# ---- what was sealed ---------------------------------------------------------------------------
+
+@dataclass
+class Layer:
+    """What Wireshark should find of one secured layer."""
+    counter: int
+    sender: str
+    identifier: int
+    tag: bytes
+    key: bytes
+    payload: bytes
+    level: int = 0             # as on the wire
+
+
+@dataclass
+class Case:
+    """A frame, its layers from the outside, and what else Wireshark should show."""
+    name: str
+    frame: bytes
+    layers: list
+    sequence: int                                # the network key's sequence number
+    shown: dict = field(default_factory=dict)
+    altered: list = field(default_factory=list)  # frames, with how many layers may be deciphered
+
+
+class Sealer:
+    """A board on the bench with both keys of each kind, and the counter that it should be at."""
+
+    def __init__(self, bench, own, counter):
+        self.bench, self.own, self.counter, self.slot = bench, own, counter, 0
+        bench.ok("board", own, counter)
+        for slot in (0, 1):
+            bench.ok("network", slot, NUMBERS[slot], NETWORK_KEYS[slot])
+            bench.ok("link", PARTNERS[slot], LINK_KEYS[slot])
+
+    def use(self, slot):
+        """Makes a slot active."""
+        self.slot = slot
+        self.bench.ok("switch", NUMBERS[slot])
+
+    def layer(self, frame, identifier, key, payload):
+        """A layer that was just sealed."""
+        self.counter += 1
+        return Layer(self.counter - 1, self.own, identifier, frame[-TAG:], key, payload)
+
+    def network(self, header, payload):
+        """A network frame, sealed, and its layer."""
+        frame = self.bench.octets("seal", header + payload)
+        return frame, self.layer(frame, NETWORK, NETWORK_KEYS[self.slot], payload)
+
+    def aps(self, partner, identifier, header, payload):
+        """An APS frame, sealed, and its layer."""
+        frame = self.bench.octets("sealaps", PARTNERS[partner], identifier, header + payload)
+        return frame, self.layer(frame, identifier, LINK_KEYS[partner], payload)
+
+    def case(self, name, header, payload, shown, inside=(), level=0):
+        """A network frame around octets that may have secured layers of their own."""
+        frame, layer = self.network(header, payload)
+        frame, layer.level = flipped(frame, len(header), level), level
+        name = f"{name}, slot {self.slot}, counter {layer.counter}"
+        case = Case(name, frame, [layer, *inside], NUMBERS[self.slot], {**PLAIN, **shown})
+        if payload:
+            case.altered += [(flipped(frame, place), 0) for place in range(len(frame))]
+        return case
+
+
+# ---- network frames ----------------------------------------------------------------------------
+
+def header(bits=0, kind=0, long_to=None, long_from=None, route=None, number=1):
+    """A plain network header, with long addresses and a source route where they are given."""
+    control = (kind | 2 << 2 | bits | (route is not None) << 10 | (long_to is not None) << 11
+               | (long_from is not None) << 12)
+    octets = least(control, 2) + least(0x0000, 2) + least(0x1234, 2) + bytes([30, number])
+    for address in (long_to, long_from):
+        octets += b"" if address is None else least(int(address, 16), 8)
+    if route is not None:
+        octets += bytes([len(route), max(len(route) - 1, 0)])
+        octets += b"".join(least(relay, 2) for relay in route)
+    return octets
+
+
+def headers():
+    """Headers of different kinds: a name, the octets, and what Wireshark should show."""
+    to, own = PARTNERS[0], "0000000100000000"
+    yield "data", header(), {"zbee_nwk.seqno": 1}
+    yield "data, route discovery", header(0x40, number=2), {"zbee_nwk.seqno": 2}
+    yield "data, end device", header(1 << 13, number=3), {"zbee_nwk.seqno": 3}
+    yield "command", header(kind=1, number=255), {"zbee_nwk.seqno": 255}
+    yield "data, long destination", header(long_to=to), {"zbee_nwk.dst64": to}
+    yield "data, long source", header(long_from=own), {"zbee_nwk.src64": own}
+    yield ("data, long addresses", header(long_to=to, long_from=own),
+           {"zbee_nwk.dst64": to, "zbee_nwk.src64": own})
+    yield "data, empty source route", header(route=()), {"zbee_nwk.relay.count": 0}
+    yield ("data, source route", header(route=(0x0BEE, 0x3C08)),
+           {"zbee_nwk.relay.count": 2, "zbee_nwk.relay.index": 1,
+            "zbee_nwk.relay": [0x0BEE, 0x3C08]})
+    yield ("command, long addresses, source route",
+           header(kind=1, long_to=to, long_from=own, route=(0x0BEE,)),
+           {"zbee_nwk.dst64": to, "zbee_nwk.src64": own, "zbee_nwk.relay": 0x0BEE})
+
+
+def count(octets):
+    """A number of octets in words."""
+    return f"{octets} octet{'' if octets == 1 else 's'}"
+
+
+def network_payload(length):
+    """Octets that start as an unsecured APS data frame does."""
+    return (bytes.fromhex("0001060004010155") + bytes(i * 37 & 255 for i in range(90)))[:length]
+
+
+def network_cases(sealer):
+    """Every header with every length that fits, in either slot by turns."""
+    for turn, (name, octets, shown) in enumerate(headers()):
+        for length in (0, 1, 16, 80, 98 - len(octets)):
+            if len(octets) + length <= 98:
+                sealer.use((turn + length) % 2)
+                yield sealer.case(f"network {name}, {count(length)}", octets,
+                                  network_payload(length), shown)
+
+
+# ---- APS frames inside -------------------------------------------------------------------------
+
+APS_HEADERS = (
+    ("data", "0001060004010109", 8), ("data, broadcast", "48ff06000401010a", 8),
+    ("data, group", "0c230106000401010b", 9), ("ack", "020106000401010c", 8),
+    ("ack of a command", "120d", 2), ("command", "010e", 2), ("command, broadcast", "490f", 2),
+)
+
+
+def both(sealer, name, partner, identifier, octets, size, shown, level=0):
+    """A secured APS frame inside a secured network frame, and the APS frame altered."""
+    inner, layer = sealer.aps(partner, identifier, octets[:size], octets[size:])
+    inner, layer.level = flipped(inner, size, level), level
+    outer = header(number=9)
+    case = sealer.case(f"APS {name}, identifier {identifier}, {count(len(octets) - size)}", outer,
+                       inner, shown, [layer])
+    if layer.payload:
+        case.altered += [(sealer.network(outer, flipped(inner, place))[0], 1)
+                         for place in range(len(inner))]
+    return case
+
+
+def aps_cases(sealer):
+    """APS frames of every form, identifier and some lengths."""
+    turn = 0
+    for name, octets, size in APS_HEADERS:
+        plain = bytes.fromhex(octets)
+        for identifier in (LINK, TRANSPORT, LOAD):
+            for length in (0, 1, 16, 98 - 8 - 17 - size):
+                turn += 1
+                sealer.use(turn % 2)
+                payload = (b"\x09" + bytes(i * 41 & 255 for i in range(90)))[:length]
+                yield both(sealer, name, turn // 2 % 2, identifier, plain + payload, size, {})
+
+
+def commands():
+    """Commands, the identifier they go under, and what Wireshark should show of them."""
+    a, tc, at = DEVICE, PARTNERS[0], "zbee_aps.cmd."
+    key = {at + "id": 5, at + "key": SENT_KEY.hex()}
+    yield TRANSPORT, ("transport1", SENT_KEY, 3, a, tc), {
+        **key, at + "key_type": 1, at + "seqno": 3, at + "dst": a, at + "src": tc}
+    yield LOAD, ("transport4", SENT_KEY, a, tc, ""), {
+        **key, at + "key_type": 4, at + "dst": a, at + "src": tc}
+    for kind, first in ((2, 1), (3, 0)):
+        yield LOAD, (f"transport{kind}", SENT_KEY, a, first, ""), {
+            **key, at + "key_type": kind, at + "partner": a, at + "init_flag": first}
+    yield LINK, ("update", a, 0x0BEE, 1, ""), {
+        at + "id": 6, at + "device": a, at + "addr": 0x0BEE, at + "update_status": 1}
+    yield LINK, ("remove", a), {at + "id": 7, at + "device": a}
+    yield LINK, ("request2", a), {at + "id": 8, at + "key_type": 2, at + "partner": a}
+    yield LINK, ("request4",), {at + "id": 8, at + "key_type": 4}
+    for identifier in (LINK, NONE):
+        yield identifier, ("switchkey", 7), {at + "id": 9, at + "seqno": 7}
+    yield NONE, ("verify", 4, a, SENT_KEY), {
+        at + "id": 15, at + "key_type": 4, at + "src": a, at + "key_hash": SENT_KEY.hex()}
+    yield LINK, ("confirm", 0, 4, a), {
+        at + "id": 16, at + "status": 0, at + "key_type": 4, at + "dst": a}
+    for identifier in (LINK, NONE):  # commands that this Wireshark may not know by name
+        yield identifier, ("down", "0008" + 8 * "5a"), {at + "id": 17}
+        yield identifier, ("up", "000a" + 10 * "5a"), {at + "id": 18}
+
+
+def command_cases(sealer):
+    """Commands as `write` makes them, and a tunnel around one of them."""
+    sealer.use(0)
+    for identifier, words, shown in commands():
+        plain = sealer.bench.octets("write", "ack", *words)
+        if identifier is NONE:
+            yield sealer.case(f"APS command {words[0]}, not secured by APS", header(), plain, shown)
+        else:
+            yield both(sealer, f"command {words[0]}", 0, identifier, plain, 2, shown)
+    plain = sealer.bench.octets("write", "noack", "transport1", SENT_KEY, 3, DEVICE, PARTNERS[0])
+    inner, layer = sealer.aps(0, TRANSPORT, plain[:2], plain[2:])
+    tunnel = sealer.bench.octets("write", "ack", "tunnel", DEVICE, inner)
+    yield sealer.case("APS command tunnel around a transport1, identifier 2", header(), tunnel,
+                      {"zbee_aps.cmd.id": [14, 5], "zbee_aps.cmd.dst": [DEVICE, DEVICE]}, [layer])
+
+
+# ---- counters, levels --------------------------------------------------------------------------
+
+def counter_cases(bench):
+    """Frames of other boards at other counters, up to the last one that is sealed."""
+    for own, counter in (("00124b0001020304", 0), ("fffffffffffffffe", 255), ("1", 65535),
+                         ("8000000000000000", 2**31 - 1), ("00124b0001020304", 2**32 - 3)):
+        sealer = Sealer(bench, own.zfill(16), counter)
+        sealer.use(counter % 2)
+        octets = bytes.fromhex("000106000401010941")
+        inner, layer = sealer.aps(1, LINK, octets[:8], octets[8:])
+        yield sealer.case(f"APS data, sender {sealer.own}, counter {counter}, and network",
+                          header(), inner, {}, [layer])
+
+
+def level_cases(sealer):
+    """Frames with a level on the wire, which is sent as 0 and read as anything."""
+    octets = bytes.fromhex("000106000401010941")
+    for level in range(1, 8):
+        yield sealer.case(f"network data, level {level} on the wire, 16 octets", header(),
+                          network_payload(16), {}, level=level)
+        yield both(sealer, f"data, level {level} on the wire", 0, LINK, octets, 8, {}, level)
+
+
+def all_cases(bench):
+    """Every case."""
+    sealer = Sealer(bench, "0000000100000000", 0)
+    return [*network_cases(sealer), *aps_cases(sealer), *command_cases(sealer),
+            *level_cases(sealer), *counter_cases(bench)]
+
+
+# ---- tshark ------------------------------------------------------------------------------------
+
+def number(shown):
+    """A number as tshark prints it."""
+    return {"True": 1, "False": 0}[shown] if shown in ("True", "False") else int(shown, 0)
+
+
+def digits(shown):
+    """Octets or an address as tshark prints them, without colons."""
+    return shown.replace(":", "")
+
+
+TROUBLE = ("zbee_sec.encrypted_payload", "zbee_sec.encrypted_payload_sliced",
+           "zbee_sec.extended_source_unknown")
+FIELDS = dict.fromkeys(TROUBLE, str)
+FIELDS.update({f"zbee.sec.{name}": number for name in ("field", "key_id", "counter", "key_seqno")})
+FIELDS.update({f"zbee.sec.{name}": digits for name in ("src64", "mic", "key")})
+FIELDS.update({f"zbee_nwk.{name}": number for name in (
+    "dst", "src", "radius", "seqno", "relay.count", "relay.index", "relay")})
+FIELDS.update({f"zbee_nwk.{name}": digits for name in ("dst64", "src64")})
+FIELDS.update({f"zbee_aps.cmd.{name}": number for name in (
+    "id", "key_type", "seqno", "init_flag", "addr", "update_status", "status")})
+FIELDS.update({f"zbee_aps.cmd.{name}": digits for name in (
+    "key", "dst", "src", "partner", "device", "key_hash")})
+
+
+def write_capture(path, frames):
+    """A capture of the frames, each in a MAC data frame with short addresses and no checksum."""
+    with open(path, "wb") as capture:
+        capture.write(struct.pack("<IHHiIII", 0xA1B2C3D4, 2, 4, 0, 0, 65535, 230))
+        for second, frame in enumerate(frames):
+            mac = (least(0x8841, 2) + bytes([second & 255]) + least(0x1AAA, 2) + least(0x0000, 2)
+                   + least(0x1234, 2) + frame)
+            capture.write(struct.pack("<IIII", second, 0, len(mac), len(mac)) + mac)
+
+
+def tshark(folder, capture, *words):
+    """What tshark prints of a capture, with the keys and nobody's own preferences."""
+    command = ["tshark", "-n", "-r", str(capture), "-o",
+               "zbee_nwk.seclevel:AES-128 Encryption, 32-bit Integrity Protection"]
+    for name, key in [(f"network {slot}", NETWORK_KEYS[slot]) for slot in (0, 1)] + [
+            (f"link {entry}", LINK_KEYS[entry]) for entry in (0, 1)]:
+        command += ["-o", f'uat:zigbee_pc_keys:"{key.hex()}","Normal","{name}"']
+    ran = subprocess.run([*command, *words], capture_output=True, text=True, check=False,
+                         env={**os.environ, "WIRESHARK_CONFIG_DIR": str(folder)})
+    if ran.returncode:
+        give_up(f"tshark failed: {ran.stderr.strip()}")
+    return ran.stdout
+
+
+def deciphered(folder, capture):
+    """For each frame of a capture the payloads that tshark deciphered, from the outside."""
+    frames = []
+    for packet in tshark(folder, capture, "-x").rstrip("\n").split("\n\n"):
+        sources, name = [], ""
+        for line in packet.lstrip("\n").split("\n"):
+            title = re.fullmatch(r"(.+) \(\d+ bytes?\):", line)
+            if title:
+                name = title[1].lower()
+                sources += [b""] if name == "decrypted zigbee payload" else []
+            elif name == "decrypted zigbee payload":
+                sources[-1] += bytes.fromhex(line[6:54])
+        frames.append(sources)
+    return frames
+
+
+def fields(folder, capture):
+    """For each frame of a capture what tshark reads of it, as lists by the field's name."""
+    words = [word for name in FIELDS for word in ("-e", name)]
+    frames = []
+    for line in tshark(folder, capture, "-T", "fields", "-E", "occurrence=a", *words).splitlines():
+        found = zip(FIELDS.items(), line.split("\t"))
+        frames.append({name: [read(one) for one in shown.split(",") if one]
+                       for (name, read), shown in found})
+    return frames
+
+
+# ---- comparing ---------------------------------------------------------------------------------
+
+def expected(case):
+    """What tshark should read of a frame."""
+    layers = case.layers
+    filled = [layer for layer in layers if layer.payload]
+    asked = {"zbee.sec.field": [0x20 | layer.identifier << 3 | layer.level for layer in layers],
+             "zbee.sec.counter": [layer.counter for layer in layers],
+             "zbee.sec.src64": [layer.sender for layer in layers],
+             "zbee.sec.key_id": [layer.identifier for layer in layers],
+             "zbee.sec.mic": [layer.tag.hex() for layer in layers],
+             "zbee.sec.key": [layer.key.hex() for layer in filled],
+             "zbee.sec.key_seqno": [case.sequence], **{name: [] for name in TROUBLE}}
+    for name, value in case.shown.items():
+        asked[name] = value if isinstance(value, list) else [value]
+    return asked
+
+
+def differences(case, payloads, read, altered):
+    """What is not as it should be with one frame and its altered copies."""
+    asked = [layer.payload for layer in case.layers if layer.payload]
+    if payloads != asked:
+        yield f"deciphered {' '.join(map(text, payloads)) or 'nothing'}, and not " + \
+            " ".join(map(text, asked))
+    for name, value in expected(case).items():
+        if read[name] != value:
+            yield f"{name} is {read[name]}, and not {value}"
+    for (frame, most), found in zip(case.altered, altered):
+        if len(found) > most:
+            yield f"deciphered though altered: {frame.hex()}"
+
+
+def verdict(case, wrong):
+    """What the line of a frame says."""
+    if wrong:
+        return "; ".join(wrong[:3])
+    said = "alike"
+    if case.altered:
+        said += f"; altered {len(case.altered)} times, never deciphered"
+    if not all(layer.payload for layer in case.layers):
+        said += "; a payload is empty, and its tag not looked at"
+    return said
+
+
+def look(folder, cases, keep):
+    """What tshark deciphers and reads of the frames, and deciphers of the altered ones."""
+    sealed, spoilt = folder / "sealed.pcap", folder / "altered.pcap"
+    frames = [case.frame for case in cases]
+    altered = [frame for case in cases for frame, _ in case.altered]
+    write_capture(sealed, frames)
+    write_capture(spoilt, altered)
+    if keep:
+        shutil.copy(sealed, keep)
+    seen = deciphered(folder, sealed), fields(folder, sealed), deciphered(folder, spoilt)
+    if [len(found) for found in seen] != [len(frames), len(frames), len(altered)]:
+        raise Differs("tshark doesn't tell of as many frames as it was given")
+    return seen
+
+
+def compare(folder, cases, keep):
+    """Prints a line for each frame; how many differ."""
+    payloads, read, rest = look(folder, cases, keep)
+    differ = 0
+    for case, plain, found in zip(cases, payloads, read):
+        altered, rest = rest[:len(case.altered)], rest[len(case.altered):]
+        wrong = list(differences(case, plain, found, altered))
+        differ += bool(wrong)
+        print(f"{case.name}: {verdict(case, wrong)}")
+    return differ
+
+
+def main():
+    """Seals, lets tshark look, compares; the exit code."""
+    parser = argparse.ArgumentParser(description=__doc__,
+                                     formatter_class=argparse.RawDescriptionHelpFormatter)
+    parser.add_argument("--bench", metavar="COMMAND", help=BENCH_HELP)
+    parser.add_argument("--keep", metavar="FILE", help="also write the capture there")
+    given = parser.parse_args()
+    if shutil.which("tshark") is None:
+        give_up("tshark is missing: install it (Debian: apt-get install -y tshark)")
+    version = subprocess.run(["tshark", "--version"], capture_output=True, text=True, check=False)
+    print(version.stdout.split("\n")[0])
+    bench = Bench(bench_words(given.bench))
+    try:
+        cases = all_cases(bench)
+        with tempfile.TemporaryDirectory() as folder:
+            differ = compare(Path(folder), cases, given.keep)
+    except Differs as difference:
+        print(difference)
+        return 1
+    finally:
+        bench.close()
+    print(f"{len(cases)} frames, {differ} differ")
+    return 1 if differ else 0
+
+
+if __name__ == "__main__":
+    sys.exit(main())
