@@ -15,7 +15,7 @@ use Rattle.octets.proofs.Choices.{choose}
 use Rattle.octets.specs.Addresses.{noAddress}
 use Rattle.octets.specs.Lists.{onto, Octets}
 use Rattle.aps.specs.Keys.{keyFor}
-use Rattle.aps.specs.Opening.{gave, top, withFloor, admitted, openedUnder, openedKeyed, openedRead, openAps}
+use Rattle.aps.specs.Opening.{gave, withFloor, admitted, openedUnder, openedKeyed, openedRead, openAps}
 use Rattle.aps.specs.Sealing.{named, sealedUnder, sealedFor, sealedRead, sealAps}
 use Rattle.answers.specs.declared.Guard.the-variants.{Under}
 use Rattle.answers.specs.Numbers.{opened, sealed, turnedDown}
@@ -29,7 +29,7 @@ use Rattle.frames.proofs.Found.{plain-to-seal}
 use Rattle.board.specs.declared.Board.{Board}
 use Rattle.board.specs.declared.Place.{Place}
 use Rattle.board.specs.declared.Place.the-variants.{At, Absent}
-use Rattle.board.specs.Sending.{Framed}
+use Rattle.board.specs.Sending.{top, Framed}
 use Rattle.board.specs.State.{linkAt}
 use Rattle.board.specs.Requests.{linkOf}
 use Rattle.seals.specs.Sealing.{messageOf, plainFrame, sealedFrame}

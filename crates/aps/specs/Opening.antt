@@ -20,6 +20,7 @@ use Rattle.board.specs.declared.Board.{Board}
 use Rattle.board.specs.declared.Link.{Link}
 use Rattle.board.specs.declared.Place.{Place}
 use Rattle.board.specs.declared.Place.the-variants.{At, Absent}
+use Rattle.board.specs.Sending.{top}
 use Rattle.board.specs.State.{linkAt, withLink}
 use Rattle.board.specs.Requests.{linkOf}
 use Rattle.seals.specs.Sealing.{longest, messageOf, plainFrame, looking}
@@ -32,10 +33,6 @@ pub record Opening : Type 0 where
 
 abbrev pub gave : FrameTold → Board → List ℕ → Opening
 gave t b o = record { answer = t; board = b; out = o }
-
--- 4,294,967,295, the counter that is never accepted
-abbrev pub top : ℕ
-top = 4294967295
 
 -- the longest APS frame
 abbrev pub longestAps : ℕ

@@ -8,6 +8,7 @@ use Rattle.octets.specs.Choice.{if_then_else_}
 use Rattle.board.specs.declared.Board.{Board}
 use Rattle.answers.specs.Numbers.{FrameTold, opened, sealed, turnedDown}
 
+-- 4,294,967,295, the counter that is neither sent nor accepted
 abbrev pub top : ℕ
 top = 4294967295
 

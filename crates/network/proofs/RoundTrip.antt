@@ -15,7 +15,7 @@ use Rattle.octets.specs.Addresses.{noAddress}
 use Rattle.octets.specs.Choice.{both}
 use Rattle.octets.specs.Lists.{onto, Octets}
 use Rattle.network.specs.Sealing.{sealedUnder, sealedBy, sealedRead, sealNetwork}
-use Rattle.network.specs.Opening.{gave, top, floorOf, rowFor, admitted, openedUnder, openedKeyed, openedRead, openNetwork}
+use Rattle.network.specs.Opening.{gave, floorOf, rowFor, admitted, openedUnder, openedKeyed, openedRead, openNetwork}
 use Rattle.answers.specs.declared.Guard.the-variants.{Under}
 use Rattle.answers.specs.Numbers.{opened, sealed, turnedDown}
 use Rattle.cipher.specs.Ccm.{Opened, valid}
@@ -27,7 +27,7 @@ use Rattle.board.specs.declared.Board.{Board}
 use Rattle.board.specs.declared.Place.{Place}
 use Rattle.board.specs.declared.Place.the-variants.{At}
 use Rattle.board.specs.declared.Active.{Active}
-use Rattle.board.specs.Sending.{Framed}
+use Rattle.board.specs.Sending.{top, Framed}
 use Rattle.board.specs.Rows.{listsFit}
 use Rattle.board.specs.State.{slotAt}
 use Rattle.board.specs.Requests.{slotOf}

@@ -20,6 +20,7 @@ use Rattle.board.specs.declared.Board.{Board}
 use Rattle.board.specs.declared.Slot.{Slot}
 use Rattle.board.specs.declared.Place.{Place}
 use Rattle.board.specs.declared.Place.the-variants.{At, Absent}
+use Rattle.board.specs.Sending.{top}
 use Rattle.board.specs.Rows.{listsFit, findRow}
 use Rattle.board.specs.State.{slotAt}
 use Rattle.board.specs.Requests.{slotOf}
@@ -34,10 +35,6 @@ pub record Opening : Type 0 where
 
 abbrev pub gave : FrameTold → List ℕ → List ℕ → List ℕ → Opening
 gave t al fl o = record { answer = t; addrs = al; floors = fl; out = o }
-
--- 4,294,967,295, the counter that is never accepted
-abbrev pub top : ℕ
-top = 4294967295
 
 -- ---- the rows of a slot, h of them
 
