@@ -1,0 +1,152 @@
+// APS commands, read and written.
+use crate::answer::Answer;
+use crate::answer::address;
+use crate::answer::decimal;
+use crate::answer::done;
+use crate::answer::hex;
+use crate::answer::refused;
+use crate::answer::word;
+use crate::desk::Moved;
+use crate::desk::room_of;
+use crate::forms::command_form;
+use crate::forms::command_words;
+use crate::read::Frame;
+use crate::sealing::written;
+use answers::Guard;
+use board::Board;
+use commands::Command;
+use commands::Reading;
+
+// A command by its word's number, and its numbers, each at its field's place in a `write` line.
+struct Spelt {
+    w: usize,
+    v: [u64; 7],
+}
+
+pub(crate) fn read(t: u64, f: Frame) -> Answer {
+    let o = f.octets;
+    let guard = guard_of(t);
+    told(
+        commands::read_command(text::front(&o, f.n), guard),
+        f,
+        guard,
+    )
+}
+
+fn told(reading: Reading, f: Frame, guard: Guard) -> Answer {
+    let o = f.octets;
+    match reading {
+        Reading::Command(c) => spelt_out(spelling(c), text::front(&o, f.n), guard),
+        Reading::Refused(why) => refused(why),
+    }
+}
+
+// 256 stands for none.
+fn guard_of(t: u64) -> Guard {
+    if t > 255 {
+        return Guard::Clear;
+    }
+    Guard::Under((t % 256) as u8)
+}
+
+fn spelt_out(s: Spelt, f: &[u8], guard: Guard) -> Answer {
+    let form = command_form(s.w);
+    let kinds = form.kinds;
+    let v = s.v;
+    let mut a = named(s.w);
+    for i in 3..7 {
+        let next = with_field(a, kinds[i], v[i], f, guard);
+        a = next;
+    }
+    a
+}
+
+fn named(w: usize) -> Answer {
+    let words = command_words();
+    let o = words.octets;
+    word(done(), text::field(text::front(&o, words.n), w))
+}
+
+// A field by the letter of its kind (see `forms`).
+fn with_field(a: Answer, kind: u8, x: u64, f: &[u8], guard: Guard) -> Answer {
+    match kind {
+        b'A' => address(a, x),
+        b'B' => decimal(a, x),
+        b'S' => decimal(a, x),
+        b'k' => hex(a, commands::key_of(f, guard)),
+        b'h' => hex(a, commands::hash_of(f, guard)),
+        b't' => hex(a, commands::tlvs_of(f, guard)),
+        b'i' => hex(a, commands::inner_of(f, guard)),
+        _ => a,
+    }
+}
+
+pub(crate) fn tlv(v: [u64; 7], f: Frame) -> Answer {
+    let o = f.octets;
+    let value = commands::value_of(text::front(&o, f.n), guard_of(v[1]), (v[2] % 256) as u8);
+    hex(done(), value)
+}
+
+pub(crate) fn write(v: [u64; 7], key: Frame, rest: Frame, b: Board, lent: usize) -> Moved {
+    let k = key.octets;
+    let r = rest.octets;
+    let mut out = [0u8; 256];
+    let room = room_of(lent, &out);
+    let sent = commands::write_command(
+        b,
+        v[1] == 0,
+        command_of(v),
+        text::front(&k, key.n),
+        text::front(&r, rest.n),
+        &mut out[..room],
+    );
+    written(sent, out)
+}
+
+// The command of a `write` line, by its form.
+fn command_of(v: [u64; 7]) -> Command {
+    let w = v[2];
+    match w {
+        0 => Command::Transport1((v[4] % 256) as u8, v[5], v[6]),
+        1 => Command::Transport4(v[4], v[5]),
+        2 => Command::Transport2(v[4], (v[5] % 256) as u8),
+        3 => Command::Transport3(v[4], (v[5] % 256) as u8),
+        4 => Command::Update(v[3], (v[4] % 65536) as u16, (v[5] % 256) as u8),
+        5 => Command::Remove(v[3]),
+        6 => Command::Request2(v[3]),
+        7 => Command::Request4,
+        8 => Command::Switch((v[3] % 256) as u8),
+        9 => Command::Tunnel(v[3]),
+        10 => Command::Verify((v[3] % 256) as u8, v[4]),
+        11 => Command::Confirm((v[3] % 256) as u8, (v[4] % 256) as u8, v[5]),
+        12 => Command::Down,
+        _ => Command::Up,
+    }
+}
+
+// The same backwards.
+fn spelling(c: Command) -> Spelt {
+    match c {
+        Command::Transport1(q, d, s) => of(0, 0, q as u64, d, s),
+        Command::Transport4(d, s) => of(1, 0, d, s, 0),
+        Command::Transport2(p, i) => of(2, 0, p, i as u64, 0),
+        Command::Transport3(p, i) => of(3, 0, p, i as u64, 0),
+        Command::Update(d, s, t) => of(4, d, s as u64, t as u64, 0),
+        Command::Remove(t) => of(5, t, 0, 0, 0),
+        Command::Request2(p) => of(6, p, 0, 0, 0),
+        Command::Request4 => of(7, 0, 0, 0, 0),
+        Command::Switch(q) => of(8, q as u64, 0, 0, 0),
+        Command::Tunnel(d) => of(9, d, 0, 0, 0),
+        Command::Verify(t, s) => of(10, t as u64, s, 0, 0),
+        Command::Confirm(s, t, d) => of(11, s as u64, t as u64, d, 0),
+        Command::Down => of(12, 0, 0, 0, 0),
+        Command::Up => of(13, 0, 0, 0, 0),
+    }
+}
+
+fn of(w: usize, a: u64, b: u64, c: u64, d: u64) -> Spelt {
+    Spelt {
+        w,
+        v: [0, 0, 0, a, b, c, d],
+    }
+}

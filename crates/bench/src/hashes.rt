@@ -1,0 +1,28 @@
+// The hash and the keyed hash, which need no board.
+use crate::answer::Answer;
+use crate::answer::done;
+use crate::answer::hex;
+use crate::answer::refused;
+use crate::read::Frame;
+use answers::Refusal;
+use cipher::Hashed;
+
+pub(crate) fn hash(f: Frame) -> Answer {
+    let o = f.octets;
+    hashed(cipher::hash(text::front(&o, f.n)))
+}
+
+pub(crate) fn keyed_hash(key: [u8; 16], f: Frame) -> Answer {
+    let o = f.octets;
+    hashed(cipher::keyed_hash(key, text::front(&o, f.n)))
+}
+
+// The only fault that hashing has is an input that is too long.
+fn hashed(h: Hashed) -> Answer {
+    let answer = h.answer;
+    let block = h.octets;
+    match answer {
+        cipher::Answer::Made(_) => hex(done(), &block),
+        cipher::Answer::Refused(_) => refused(Refusal::Long),
+    }
+}

@@ -1,0 +1,67 @@
+// What a board holds.
+use crate::answer::Answer;
+use crate::answer::address;
+use crate::answer::decimal;
+use crate::answer::done;
+use crate::answer::word;
+use crate::desk::Lists;
+use crate::read::Fields;
+use board::Active;
+use board::Board;
+use board::Link;
+
+pub(crate) fn state(b: Board) -> Answer {
+    let outgoing = decimal(done(), b.outgoing as u64);
+    let mark = b.active;
+    active(decimal(outgoing, b.aps as u64), mark)
+}
+
+fn active(a: Answer, mark: Active) -> Answer {
+    match mark {
+        Active::Nobody => word(a, b"-"),
+        Active::Slot(i) => decimal(a, i as u64),
+    }
+}
+
+pub(crate) fn links(b: Board) -> Answer {
+    let entries = b.links;
+    let mut a = done();
+    for i in 0..8 {
+        let l = entries[i];
+        a = link(a, i, l);
+    }
+    a
+}
+
+fn link(a: Answer, i: usize, l: Link) -> Answer {
+    if !l.present {
+        return a;
+    }
+    let entry = decimal(a, i as u64);
+    decimal(address(entry, l.partner), l.floor as u64)
+}
+
+// The stored rows, lent or not.
+pub(crate) fn heard(x: Fields, lists: Lists) -> Answer {
+    let v = x.v;
+    let addrs = lists.addrs;
+    let floors = lists.floors;
+    rows(v[1] as usize, addrs, floors)
+}
+
+fn rows(slot: usize, addrs: [u64; 1024], floors: [u32; 1024]) -> Answer {
+    let mut a = done();
+    for r in 0..64 {
+        a = row(a, slot, r, addrs[r], floors[r]);
+    }
+    a
+}
+
+// Document 01: rows 0 to 31 for slot 0, rows 32 to 63 for slot 1; address 0 is a free row.
+fn row(a: Answer, slot: usize, r: usize, sender: u64, floor: u32) -> Answer {
+    if r / 32 != slot || sender == 0 {
+        return a;
+    }
+    let number = decimal(a, r as u64);
+    decimal(address(number, sender), floor as u64)
+}
