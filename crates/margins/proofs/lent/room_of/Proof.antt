@@ -1,0 +1,14 @@
+use native.Mathlib.Omega.{arith}
+use lib.ListN.{length-take}
+use borrow.Author.Needs.{needs}
+use Rattle.margins.proofs.lent.room_of.Statement.{statement}
+use Rattle.margins.proofs.lent.room_of.Tie as tie
+
+returns : tie.Need-returns
+returns c = (search needs, simp length-take (omega arith))
+
+returns-2 : tie.Need-returns-2
+returns-2 c = (search needs, simp length-take (omega arith))
+
+pub room-of-spec : {M : Type 1} → statement M
+room-of-spec = tie.close (tie.spec returns returns-2)

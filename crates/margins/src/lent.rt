@@ -1,0 +1,92 @@
+// What every line is lent, made anew for it.
+ghost use mathlib.Core.Path.{_≡_};
+ghost use Prim.Native.Nat.{_≤_};
+ghost use lib.ListN.{length, take};
+use board::Active;
+use board::Board;
+use board::Link;
+use board::Slot;
+
+// The two lists of heard senders.
+pub struct Lists {
+    pub addrs: [u64; 64],
+    pub floors: [u32; 64],
+}
+
+// The fields are set directly: requests would take 255 commands to bring the APS counter to where
+// it wraps.
+pub(crate) fn made_board() -> Board {
+    let fresh = board::make(2);
+    let b = fresh.board;
+    let mut links = b.links;
+    links[0] = link(0xa1, key_from(0x20), 100);
+    links[1] = link(0xa2, key_from(0x30), 0);
+    Board {
+        own: b.own,
+        outgoing: 7,
+        aps: 255,
+        slots: [slot(5, key_from(0x00)), slot(6, key_from(0x10))],
+        active: Active::Slot(0),
+        links,
+    }
+}
+
+fn slot(seq: u8, key: [u8; 16]) -> Slot {
+    Slot {
+        present: true,
+        seq,
+        key,
+    }
+}
+
+fn link(partner: u64, key: [u8; 16], floor: u32) -> Link {
+    Link {
+        present: true,
+        partner,
+        key,
+        floor,
+    }
+}
+
+// Sixteen octets that count up from the first. Each first has four low bits of zero.
+pub(crate) fn key_from(first: u8) -> [u8; 16] {
+    [
+        first,
+        first | 1,
+        first | 2,
+        first | 3,
+        first | 4,
+        first | 5,
+        first | 6,
+        first | 7,
+        first | 8,
+        first | 9,
+        first | 10,
+        first | 11,
+        first | 12,
+        first | 13,
+        first | 14,
+        first | 15,
+    ]
+}
+
+// Row 0 is used, and all rows of slot 1 are.
+pub(crate) fn made_lists() -> Lists {
+    let mut addrs = [0u64; 64];
+    let mut floors = [0u32; 64];
+    addrs[0] = 0xb1;
+    floors[0] = 100;
+    for r in 32..64 {
+        addrs[r] = 0xc00 + r as u64;
+        floors[r] = 1;
+    }
+    Lists { addrs, floors }
+}
+
+// As many octets of out as are lent. The two facts are what a part of out asks for.
+pub(crate) fn room_of(size: u64, out: &[u8]) -> usize
+    ensures { λ r. ⌜ (r ≤ length (now (out .entry))) × (r ≡ length (take r (now (out .entry)))) ⌝ }
+{
+    let lent = size as usize;
+    if out.len() < lent { out.len() } else { lent }
+}

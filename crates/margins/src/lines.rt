@@ -1,0 +1,123 @@
+// The input, line by line.
+use crate::answer::say;
+use crate::requests::answer_to;
+
+// Where the reading stands: what is left of the chunk that was read last, the number of the line,
+// how many octets of it are there, whether it has more than there is room for, whether its line
+// feed was met, and whether the input goes on.
+pub struct Reader {
+    pub from: usize,
+    pub to: usize,
+    pub number: u64,
+    pub at: usize,
+    pub long: bool,
+    pub ended: bool,
+    pub open: bool,
+}
+
+// Nothing says that the input ends, so the turns are counted down from more than it can have.
+pub(crate) fn run(chunk: &mut [u8; 4096], line: &mut [u8; 2048]) {
+    let mut reader = fresh_reader();
+    let mut turns = u64::MAX;
+    while turns > 0 && reader.open {
+        let next = next_line(reader, chunk, line);
+        reader = next;
+        answer_line(reader, line);
+        turns -= 1;
+    }
+}
+
+fn fresh_reader() -> Reader {
+    Reader {
+        from: 0,
+        to: 0,
+        number: 0,
+        at: 0,
+        long: false,
+        ended: false,
+        open: true,
+    }
+}
+
+// Reads on to the end of a line, or of the input.
+fn next_line(reader: Reader, chunk: &mut [u8; 4096], line: &mut [u8; 2048]) -> Reader {
+    let mut now = begun_line(reader);
+    let mut turns = u64::MAX;
+    while turns > 0 && now.open && !now.ended {
+        let next = read_on(now, chunk, line);
+        now = next;
+        turns -= 1;
+    }
+    now
+}
+
+fn begun_line(reader: Reader) -> Reader {
+    let number = std::num::wrapping_add_u64(reader.number, 1);
+    Reader {
+        from: reader.from,
+        to: reader.to,
+        number,
+        at: 0,
+        long: false,
+        ended: false,
+        open: reader.open,
+    }
+}
+
+fn read_on(now: Reader, chunk: &mut [u8; 4096], line: &mut [u8; 2048]) -> Reader {
+    let from = now.from;
+    if from < now.to && from < 4096 {
+        let mut next = now;
+        let more = from + 1;
+        next.from = more;
+        return take_octet(chunk[from], next, line);
+    }
+    refill(now, chunk)
+}
+
+// One read at a time, of what is there.
+fn refill(now: Reader, chunk: &mut [u8; 4096]) -> Reader {
+    let got = libc::read(0, chunk);
+    let mut next = now;
+    if got <= 0 {
+        next.open = false;
+        return next;
+    }
+    let n = io::count(got, chunk);
+    next.from = 0;
+    next.to = n;
+    next
+}
+
+// The octets of a line that is too long are not kept; the first is, since it tells whether the line
+// is answered at all.
+fn take_octet(c: u8, now: Reader, line: &mut [u8; 2048]) -> Reader {
+    let mut next = now;
+    let at = now.at;
+    if c == b'\n' {
+        next.ended = true;
+    } else if at < 2048 {
+        line[at] = c;
+        let more = at + 1;
+        next.at = more;
+    } else {
+        next.long = true;
+    }
+    next
+}
+
+// An empty line has no answer, nor has the nothing that follows the last line feed.
+fn answer_line(reader: Reader, line: &[u8]) {
+    let ended = text::front(line, reader.at);
+    if is_silent(ended) {
+        return;
+    }
+    say(reader.number, answer_to(reader.long, ended));
+}
+
+fn is_silent(line: &[u8]) -> bool {
+    if line.len() == 0 {
+        return true;
+    }
+    line[0] == b'#'
+}

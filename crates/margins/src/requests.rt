@@ -1,0 +1,69 @@
+// Which request a line is, and the form of each.
+use crate::answer::Answer;
+use crate::answer::bad;
+use crate::hashes;
+use crate::opening;
+use crate::parts;
+use crate::read::Fields;
+use crate::read::Form;
+use crate::read::fields_of;
+use crate::sealing;
+use crate::writing::write;
+use commands::Command;
+
+pub(crate) fn answer_to(long: bool, line: &[u8]) -> Answer {
+    let w = word_number(line);
+    let x = fields_of(line, form_of(w));
+    if long || !x.good {
+        return bad();
+    }
+    answer_well(w, x)
+}
+
+// A number beyond the words for a line that has none of them.
+fn word_number(line: &[u8]) -> usize {
+    text::which(
+        b"open\topenaps\tseal\tsealaps\tremove\ttunnel\tdown\thash\tkeyedhash\tkey\tdigest\tinner\ttlvs\tvalue",
+        text::field(line, 0),
+    )
+}
+
+// The kinds of the fields, a dot for the word itself. A number beyond the words has no field at
+// all, a form that no line has.
+fn form_of(w: usize) -> Form {
+    let s = text::field(
+        b".SF\t.SAF\t.SF\t.SABF\t.SA\t.SAF\t.SF\t.F\t.F\t.TF\t.TF\t.TF\t.TF\t.TBF",
+        w,
+    );
+    Form {
+        n: s.len(),
+        kinds: [
+            octets::octet(s, 0),
+            octets::octet(s, 1),
+            octets::octet(s, 2),
+            octets::octet(s, 3),
+            octets::octet(s, 4),
+        ],
+    }
+}
+
+fn answer_well(w: usize, x: Fields) -> Answer {
+    let v = x.v;
+    let f = x.frame;
+    match w {
+        0 => opening::open(v[1], f),
+        1 => opening::open_aps(v[1], v[2], f),
+        2 => sealing::seal(v[1], f),
+        3 => sealing::seal_aps(v[1], v[2], v[3], f),
+        4 => write(v[1], true, Command::Remove(v[2]), f),
+        5 => write(v[1], false, Command::Tunnel(v[2]), f),
+        6 => write(v[1], true, Command::Down, f),
+        7 => hashes::hash(f),
+        8 => hashes::keyed_hash(f),
+        9 => parts::key(v[1], f),
+        10 => parts::digest(v[1], f),
+        11 => parts::inner(v[1], f),
+        12 => parts::tlvs(v[1], f),
+        _ => parts::value(v[1], v[2], f),
+    }
+}
