@@ -42,10 +42,6 @@ pub(crate) fn hex(a: Answer, src: &[u8]) -> Answer {
     Answer { n, octets }
 }
 
-pub(crate) fn bad() -> Answer {
-    first(b"bad")
-}
-
 pub(crate) fn done() -> Answer {
     first(b"ok")
 }

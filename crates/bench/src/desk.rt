@@ -3,7 +3,7 @@ ghost use mathlib.Core.Path.{_≡_};
 ghost use Prim.Native.Nat.{_≤_};
 ghost use lib.ListN.{length, take};
 use crate::answer::Answer;
-use crate::answer::bad;
+use crate::answer::first;
 use crate::answer::told;
 use board::After;
 use board::Board;
@@ -75,7 +75,7 @@ pub(crate) fn fresh_lists() -> Lists {
 
 pub(crate) fn reply_bad(desk: Desk) -> Reply {
     Reply {
-        answer: bad(),
+        answer: first(b"bad"),
         desk,
     }
 }

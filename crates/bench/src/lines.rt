@@ -19,7 +19,15 @@ pub struct Reader {
 
 // Nothing says that the input ends, so the turns are counted down from more than it can have.
 pub(crate) fn run(chunk: &mut [u8; 4096], line: &mut [u8; 2048]) {
-    let mut reader = fresh_reader();
+    let mut reader = Reader {
+        from: 0,
+        to: 0,
+        number: 0,
+        at: 0,
+        long: false,
+        ended: false,
+        open: true,
+    };
     let mut desk = fresh_desk();
     let mut turns = u64::MAX;
     while turns > 0 && reader.open {
@@ -28,18 +36,6 @@ pub(crate) fn run(chunk: &mut [u8; 4096], line: &mut [u8; 2048]) {
         let left = answer_line(reader, line, desk);
         desk = left;
         turns -= 1;
-    }
-}
-
-fn fresh_reader() -> Reader {
-    Reader {
-        from: 0,
-        to: 0,
-        number: 0,
-        at: 0,
-        long: false,
-        ended: false,
-        open: true,
     }
 }
 

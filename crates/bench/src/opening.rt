@@ -101,13 +101,9 @@ fn looked(a: Answer, genuine: bool) -> Answer {
 }
 
 fn plain(n: usize, sender: u64, guard: Guard, out: [u8; 256]) -> Answer {
-    let a = guarded(address(done(), sender), guard);
-    hex(a, text::front(&out, n))
-}
-
-fn guarded(a: Answer, guard: Guard) -> Answer {
+    let a = address(done(), sender);
     match guard {
-        Guard::Clear => word(a, b"none"),
-        Guard::Under(k) => decimal(a, k as u64),
+        Guard::Clear => hex(word(a, b"none"), text::front(&out, n)),
+        Guard::Under(k) => hex(decimal(a, k as u64), text::front(&out, n)),
     }
 }

@@ -63,8 +63,13 @@ fn reply_well(w: usize, x: Fields, desk: Desk) -> Reply {
     if w < 10 {
         return on_held(w, x, desk);
     }
-    if w == 13 || w == 14 {
-        return on_desk(w, x, desk);
+    if w == 13 {
+        let v = x.v;
+        return making::make(v, desk);
+    }
+    if w == 14 {
+        let v = x.v;
+        return making::lend(v, desk);
     }
     Reply {
         answer: shown(w, x, desk),
@@ -83,14 +88,6 @@ fn alone(w: usize, x: Fields) -> Answer {
     }
 }
 
-fn on_desk(w: usize, x: Fields, desk: Desk) -> Reply {
-    let v = x.v;
-    if w == 13 {
-        return making::make(v, desk);
-    }
-    making::lend(v, desk)
-}
-
 fn shown(w: usize, x: Fields, desk: Desk) -> Answer {
     if w > 12 {
         return alone(w, x);
@@ -100,7 +97,10 @@ fn shown(w: usize, x: Fields, desk: Desk) -> Answer {
     match w {
         10 => show::state(b),
         11 => show::links(b),
-        _ => show::heard(x, lists),
+        _ => {
+            let v = x.v;
+            show::heard(v[1] as usize, lists)
+        }
     }
 }
 

@@ -5,7 +5,6 @@ use crate::answer::decimal;
 use crate::answer::done;
 use crate::answer::word;
 use crate::desk::Lists;
-use crate::read::Fields;
 use board::Active;
 use board::Board;
 use board::Link;
@@ -42,14 +41,9 @@ fn link(a: Answer, i: usize, l: Link) -> Answer {
 }
 
 // The stored rows, lent or not.
-pub(crate) fn heard(x: Fields, lists: Lists) -> Answer {
-    let v = x.v;
+pub(crate) fn heard(slot: usize, lists: Lists) -> Answer {
     let addrs = lists.addrs;
     let floors = lists.floors;
-    rows(v[1] as usize, addrs, floors)
-}
-
-fn rows(slot: usize, addrs: [u64; 1024], floors: [u32; 1024]) -> Answer {
     let mut a = done();
     for r in 0..64 {
         a = row(a, slot, r, addrs[r], floors[r]);
