@@ -15,6 +15,7 @@ use Rattle.cipher.specs.Ccm.{Opened, valid, invalid}
 use Rattle.frames.specs.declared.Layer.the-variants.{Aps}
 use Rattle.frames.specs.declared.Secured.{Secured}
 use Rattle.frames.specs.Security.{identifierOf}
+use Rattle.frames.specs.Aps.{longestAps}
 use Rattle.frames.specs.Reading.{Reading, refused, plain, secured, readAps}
 use Rattle.board.specs.declared.Board.{Board}
 use Rattle.board.specs.declared.Link.{Link}
@@ -33,10 +34,6 @@ pub record Opening : Type 0 where
 
 abbrev pub gave : FrameTold → Board → List ℕ → Opening
 gave t b o = record { answer = t; board = b; out = o }
-
--- the longest APS frame
-abbrev pub longestAps : ℕ
-longestAps = 108
 
 -- entry i with another floor, all else as it was
 abbrev pub withFloor : Board → ℕ → ℕ → Board

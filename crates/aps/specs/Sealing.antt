@@ -10,7 +10,7 @@ use lib.ListN.{length}
 use Rattle.octets.specs.Choice.{if_then_else_, both}
 use Rattle.octets.specs.Lists.{onto}
 use Rattle.aps.specs.Keys.{keyFor}
-use Rattle.aps.specs.Opening.{longestAps}
+use Rattle.frames.specs.Aps.{longestAps}
 use Rattle.answers.specs.Numbers.{sealed, turnedDown}
 use Rattle.frames.specs.declared.Layer.the-variants.{Aps}
 use Rattle.frames.specs.Security.{tagOctets}

@@ -29,7 +29,8 @@ use Rattle.commands.specs.declared.Rest.the-variants.{End, Tlvs, Relay, 
 use Rattle.commands.specs.declared.Place.{Place}
 use Rattle.commands.specs.Kinds.{listed}
 use Rattle.commands.specs.Table.{ruleOf, fits, known, allows}
-use Rattle.commands.specs.Reading.{longest, Verdict, refused, sound, judgeKind, judgeListed, judgeHeader, judge}
+use Rattle.frames.specs.Aps.{longestAps}
+use Rattle.commands.specs.Reading.{Verdict, refused, sound, judgeKind, judgeListed, judgeHeader, judge}
 use Rattle.commands.specs.Parts.{Part, octetsAt, keyIn, hashIn, keyPlace, hashPlace, restPlace, tlvsIn, innerIn, tlvsPlace, innerPlace, within, valuePlace}
 use Rattle.frames.specs.Reading as frames
 use Rattle.tlvs.specs.declared.Walked.the-variants as walks
@@ -111,7 +112,7 @@ module _ (f : List ℕ) (p : Guard) where
   unfolding judge
   judge-sized =
       choose (Sized f) (not (known p)) _ _ (λ _. omega arith)
-      λ _. choose (Sized f) (ltb longest (length f)) (refused 2) (judgeHeader f p (readApsCommand f)) (λ _. omega arith) (λ _. header-sized (readApsCommand f))
+      λ _. choose (Sized f) (ltb longestAps (length f)) (refused 2) (judgeHeader f p (readApsCommand f)) (λ _. omega arith) (λ _. header-sized (readApsCommand f))
 
 -- ---- the places
 

@@ -18,7 +18,8 @@ use Rattle.commands.specs.declared.Listed.{Listed}
 use Rattle.commands.specs.declared.Listed.the-variants.{Reserved, Is}
 use Rattle.commands.specs.Kinds.{listed}
 use Rattle.commands.specs.Table.{ruleOf, fits, known, allows}
-use Rattle.commands.specs.Reading.{longest, Verdict, refused, sound, judgeKind, judgeListed, judgeHeader, judge, commandOf, ReadTold, read, unread, answered, readCommand}
+use Rattle.frames.specs.Aps.{longestAps}
+use Rattle.commands.specs.Reading.{Verdict, refused, sound, judgeKind, judgeListed, judgeHeader, judge, commandOf, ReadTold, read, unread, answered, readCommand}
 use Rattle.frames.specs.Reading as frames
 
 -- ---- a frame that is sound
@@ -31,7 +32,7 @@ pub record Meets (f : List ℕ) (p : Guard) (k : Kind) : Type 0 where
 
 pub record Sound (f : List ℕ) (p : Guard) (k : Kind) : Type 0 where
   pub protected : known p ≡ true
-  pub short : length f ≤ longest
+  pub short : length f ≤ longestAps
   pub listing : listed (at f 2) (at f 3) ≡ Is k
   pub meets : Meets f p k
 
@@ -76,13 +77,13 @@ module _ (f : List ℕ) (p : Guard) where
   unfolding judge
   judge-told k =
       choose (λ (v : Verdict). v ≡ sound k → Sound f p k) (not (known p)) _ _ (λ _ g. refused-sound 14 k g)
-      λ a. choose (λ (v : Verdict). v ≡ sound k → Sound f p k) (ltb longest (length f)) _ _ (λ _ g. refused-sound 2 k g)
+      λ a. choose (λ (v : Verdict). v ≡ sound k → Sound f p k) (ltb longestAps (length f)) _ _ (λ _ g. refused-sound 2 k g)
       λ b g. let t = header-told (readApsCommand f) k g in
-      record { protected = not-false _ a; short = ltb-false longest (length f) b; listing = t .0; meets = t .1 }
+      record { protected = not-false _ a; short = ltb-false longestAps (length f) b; listing = t .0; meets = t .1 }
 
   pub judge-sound : (h : ℕ) (k : Kind) → readApsCommand f ≡ frames.plain h → Sound f p k → judge f p ≡ sound k
   unfolding judge judgeHeader judgeListed
-  judge-sound h k e s = simp (s .protected, le-ltb longest (length f) (s .short), e, s .listing) (kind-judged k (s .meets))
+  judge-sound h k e s = simp (s .protected, le-ltb longestAps (length f) (s .short), e, s .listing) (kind-judged k (s .meets))
 
   -- what was read, was judged sound
   pub read-told : (c : Command) → readCommand f p ≡ read c → (k : Kind) × (judge f p ≡ sound k) × (c ≡ commandOf f k)

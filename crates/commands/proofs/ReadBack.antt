@@ -17,7 +17,7 @@ use Rattle.octets.specs.Least.{numberAt}
 use Rattle.octets.specs.Lists.{at, tab}
 use Rattle.answers.specs.Numbers.{FrameTold, opened, sealed, turnedDown}
 use Rattle.answers.specs.declared.Guard.{Guard}
-use Rattle.frames.specs.Aps.{apsType, delivery, ackFormat, apsForm, apsSecured, apsHeader}
+use Rattle.frames.specs.Aps.{apsType, delivery, ackFormat, apsForm, apsSecured, apsHeader, longestAps}
 use Rattle.frames.specs.Reading.{plain, readApsCommand}
 use Rattle.board.specs.declared.Board.{Board}
 use Rattle.board.specs.Sending.{Framed, framed}
@@ -38,7 +38,7 @@ use Rattle.commands.specs.declared.Rest.{Rest}
 use Rattle.commands.specs.declared.Rest.the-variants.{End, Tlvs, Relay, Inner}
 use Rattle.commands.specs.Kinds.{transported, requested, listed, kindOf}
 use Rattle.commands.specs.Table.{ruleOf, secretSize, fits, known, allows}
-use Rattle.commands.specs.Reading.{longest, Verdict, sound, judge, commandOf, read, answered, readCommand}
+use Rattle.commands.specs.Reading.{Verdict, sound, judge, commandOf, read, answered, readCommand}
 use Rattle.commands.specs.Parts.{octetsAt, keyIn, hashIn, keyPlace, hashPlace, restPlace, tlvsIn, innerIn, tlvsPlace, innerPlace, within, valuePlace}
 use Rattle.commands.specs.Writing.{controlOf, ownOctets, frameOf, whole, counted, writeCommand}
 use Rattle.commands.specs.Reverse.{ranged, asKey, asHash, asTlvs, asInner, valueIn, GivesBack}
@@ -253,7 +253,7 @@ value-back f q s tag e =
 
 module _ (b : Board) (ack : Bool) (c : Command) (k r : List ℕ) (p : Guard) where
   -- a frame of those parts, no longer than the writer allows
-  pub frame-back : ranged c ≡ true → whole (ruleOf (kindOf c)) k r ≡ true → length (frameOf b ack c k r) ≤ longest
+  pub frame-back : ranged c ≡ true → whole (ruleOf (kindOf c)) k r ≡ true → length (frameOf b ack c k r) ≤ longestAps
       → allows (ruleOf (kindOf c) .under) p ≡ true → GivesBack (frameOf b ack c k r) p c k r
   unfolding frameOf readCommand keyPlace hashPlace tlvsPlace innerPlace
   frame-back e w l a =
@@ -322,20 +322,20 @@ module _ (b : Board) (ack : Bool) (c : Command) (k r o : List ℕ) (n : ℕ) (d 
   -- what an answer with a length tells
   pub record Written : Type 0 where
     pub parts : whole (ruleOf (kindOf c)) k r ≡ true
-    pub short : length (frameOf b ack c k r) ≤ longest
+    pub short : length (frameOf b ack c k r) ≤ longestAps
     pub raised : d ≡ counted b
     pub frame : take n m ≡ frameOf b ack c k r
 
   pub written : writeCommand b ack c k r o ≡ framed (sealed n) d m → Written
   unfolding writeCommand lengthIn
   written =
-      choose (λ (x : Framed). x ≡ framed (sealed n) d m → Written) (ltb (length o) longest) _ _ (λ _ e. refused-sealed 1 n b d o m e)
+      choose (λ (x : Framed). x ≡ framed (sealed n) d m → Written) (ltb (length o) longestAps) _ _ (λ _ e. refused-sealed 1 n b d o m e)
       λ _. choose (λ (x : Framed). x ≡ framed (sealed n) d m → Written) (not (whole (ruleOf (kindOf c)) k r)) _ _ (λ _ e. refused-sealed 11 n b d o m e)
-      λ w. choose (λ (x : Framed). x ≡ framed (sealed n) d m → Written) (ltb longest (length (frameOf b ack c k r))) _ _ (λ _ e. refused-sealed 2 n b d o m e)
+      λ w. choose (λ (x : Framed). x ≡ framed (sealed n) d m → Written) (ltb longestAps (length (frameOf b ack c k r))) _ _ (λ _ e. refused-sealed 2 n b d o m e)
       λ l e. let f = frameOf b ack c k r in
       record {
         parts = not-false _ w;
-        short = ltb-false longest (length f) l;
+        short = ltb-false longestAps (length f) l;
         raised = sym (ap (λ (x : Framed). x .board) e);
         frame = ap₂ (λ (i : ℕ) (s : List ℕ). take i s) (sym (ap lengthIn e)) (sym (ap (λ (x : Framed). x .out) e)) ∙ take-at f (drop (length f) o) (length f) refl;
       }

@@ -31,7 +31,8 @@ use Rattle.commands.specs.declared.Rest.{Rest}
 use Rattle.commands.specs.declared.Rest.the-variants.{End, Tlvs, Relay, Inner}
 use Rattle.commands.specs.Kinds.{transported, requested, listed, kindOf}
 use Rattle.commands.specs.Table.{ruleOf, secretSize, fits}
-use Rattle.commands.specs.Reading.{longest, Verdict, sound, commandOf, read, readCommand}
+use Rattle.frames.specs.Aps.{longestAps}
+use Rattle.commands.specs.Reading.{Verdict, sound, commandOf, read, readCommand}
 use Rattle.commands.specs.Parts.{octetsAt, keyIn, hashIn, keyPlace, hashPlace, restPlace, tlvsIn, innerIn, tlvsPlace, innerPlace}
 use Rattle.commands.specs.Writing.{controlOf, ownOctets, frameOf, whole, counted, writeCommand}
 use Rattle.commands.specs.Reverse.{secretRead, restRead}
@@ -238,13 +239,13 @@ module _ (f : List ℕ) where
 -- ---- all together
 
 module _ (b : Board) (ack : Bool) (c : Command) (k r o : List ℕ) (f : List ℕ) where
-  writes-frame : whole (ruleOf (kindOf c)) k r ≡ true → frameOf b ack c k r ≡ f → length f ≤ longest → longest ≤ length o
+  writes-frame : whole (ruleOf (kindOf c)) k r ≡ true → frameOf b ack c k r ≡ f → length f ≤ longestAps → longestAps ≤ length o
       → writeCommand b ack c k r o ≡ framed (sealed (length f)) (counted b) (onto f o)
   unfolding writeCommand
-  writes-frame w e l h = simp (le-ltb (length o) longest h, w, e, le-ltb longest (length f) l)
+  writes-frame w e l h = simp (le-ltb (length o) longestAps h, w, e, le-ltb longestAps (length f) l)
 
 module _ (f : List ℕ) (p : Guard) (b : Board) (ack : Bool) (o : List ℕ) where
-  again : (k : Kind) → Octets f → Sound f p k → at f 0 ≡ controlOf ack → at f 1 ≡ b .aps → longest ≤ length o
+  again : (k : Kind) → Octets f → Sound f p k → at f 0 ≡ controlOf ack → at f 1 ≡ b .aps → longestAps ≤ length o
       → writeCommand b ack (commandOf f k) (octetsAt f (keyPlace (sound k)) ++ octetsAt f (hashPlace (sound k)))
       (octetsAt f (tlvsPlace (length f) (sound k)) ++ octetsAt f (innerPlace (length f) (sound k))) o
       ≡ framed (sealed (length f)) (counted b) (onto f o)
@@ -274,7 +275,7 @@ module _ (f : List ℕ) (p : Guard) (b : Board) (ack : Bool) (o : List ℕ) wher
           ∙ take-append-drop (2 + ruleOf k .size) f
 
   -- a frame f of octets that was read as the command c, written again with the parts that it gave
-  pub write-back : (c : Command) → Octets f → readCommand f p ≡ read c → at f 0 ≡ controlOf ack → at f 1 ≡ b .aps → longest ≤ length o
+  pub write-back : (c : Command) → Octets f → readCommand f p ≡ read c → at f 0 ≡ controlOf ack → at f 1 ≡ b .aps → longestAps ≤ length o
       → writeCommand b ack c (secretRead f p) (restRead f p) o ≡ framed (sealed (length f)) (counted b) (onto f o)
   write-back c s e x n h =
       let t = read-told f p c e in

@@ -13,6 +13,7 @@ use Rattle.octets.specs.Lists.{at}
 use Rattle.octets.specs.Least.{numberAt}
 use Rattle.answers.specs.declared.Guard.{Guard}
 use Rattle.answers.specs.Numbers.{numberOf}
+use Rattle.frames.specs.Aps.{longestAps}
 use Rattle.frames.specs.Reading.{readApsCommand}
 use Rattle.commands.specs.declared.Command.{Command}
 use Rattle.commands.specs.declared.Kind.{Kind}
@@ -27,10 +28,6 @@ use Rattle.frames.specs.Reading as frames
 use Rattle.commands.specs.declared.Command.the-variants as commands
 use Rattle.commands.specs.declared.Judged.the-variants as judged
 use Rattle.commands.specs.declared.Reading.the-variants as readings
-
--- "APS (read or written) over 108", and the room that the writer asks for
-abbrev pub longest : ℕ
-longest = 108
 
 -- ---- the judgement
 
@@ -65,7 +62,7 @@ judgeHeader f p (frames.secured s) = refused 4
 unfoldable pub judge : List ℕ → Guard → Verdict
 judge f p =
     if not (known p) then refused 14
-    else (if ltb longest (length f) then refused 2
+    else (if ltb longestAps (length f) then refused 2
     else judgeHeader f p (readApsCommand f))
 
 -- ---- the fields

@@ -19,7 +19,7 @@ use Rattle.commands.specs.declared.Rule.{Rule}
 use Rattle.commands.specs.declared.Line.{Line}
 use Rattle.commands.specs.Kinds.{kindOf}
 use Rattle.commands.specs.Table.{ruleOf, fits, secretSize}
-use Rattle.commands.specs.Reading.{longest}
+use Rattle.frames.specs.Aps.{longestAps}
 
 -- ---- the frame
 
@@ -71,9 +71,9 @@ counted b = withAps b ((b .aps + 1) % 256)
 
 unfoldable pub writeCommand : Board → Bool → Command → List ℕ → List ℕ → List ℕ → Framed
 writeCommand b ack c k r o =
-    if ltb (length o) longest then framed (turnedDown 1) b o
+    if ltb (length o) longestAps then framed (turnedDown 1) b o
     else (if not (whole (ruleOf (kindOf c)) k r) then framed (turnedDown 11) b o
-    else (if ltb longest (length (frameOf b ack c k r)) then framed (turnedDown 2) b o
+    else (if ltb longestAps (length (frameOf b ack c k r)) then framed (turnedDown 2) b o
     else framed (sealed (length (frameOf b ack c k r))) (counted b) (onto (frameOf b ack c k r) o)))
 
 -- ---- of the code

@@ -1,8 +1,8 @@
 // Network and APS frames, as far as they are read without a key: headers, the auxiliary header, the
 // nonce and the octets that are authenticated. There is no state here.
-mod aps;
+mod aps_header;
 mod making;
-mod network;
+mod network_header;
 mod reading;
 mod security;
 

@@ -1,8 +1,8 @@
 // Frames read in the order in which document 01 judges them, up to where a key is looked for.
 use crate::Read;
 use crate::Secured;
-use crate::aps;
-use crate::network;
+use crate::aps_header;
+use crate::network_header;
 use crate::security;
 use answers::Refusal;
 ghost use mathlib.Core.Path.{_≡_};
@@ -69,13 +69,16 @@ pub fn read_network(f: &[u8]) -> Read
         return Read::Refused(Refusal::Short);
     }
     let c = octets::number2(f, 0);
-    if !network::form(c) {
+    if !network_header::form(c) {
         return Read::Refused(Refusal::Form);
     }
-    let h = network::header_length(f, c);
-    if network::is_secured(c) {
+    let h = network_header::header_length(f, c);
+    if network_header::is_secured(c) {
         let control = octets::octet(f, h);
-        let suits = network::is_keyed(security::identifier(control), security::extended(control));
+        let suits = network_header::is_keyed(
+            security::identifier(control),
+            security::extended(control),
+        );
         return secured_behind(suits, f, h, 0);
     }
     plain_behind(f, h)
@@ -89,12 +92,12 @@ pub fn read_aps(f: &[u8], given: u64) -> Read
         return Read::Refused(Refusal::Short);
     }
     let c = octets::octet(f, 0);
-    if !aps::form(c) {
+    if !aps_header::form(c) {
         return Read::Refused(Refusal::Form);
     }
-    let h = aps::header_length(c);
-    if aps::is_secured(c) {
-        let suits = aps::is_keyed(security::identifier(octets::octet(f, h)));
+    let h = aps_header::header_length(c);
+    if aps_header::is_secured(c) {
+        let suits = aps_header::is_keyed(security::identifier(octets::octet(f, h)));
         return secured_behind(suits, f, h, given);
     }
     plain_behind(f, h)
@@ -108,13 +111,13 @@ pub fn read_network_plain(f: &[u8]) -> Read
         return Read::Refused(Refusal::Short);
     }
     let c = octets::number2(f, 0);
-    if !network::form(c) {
+    if !network_header::form(c) {
         return Read::Refused(Refusal::Form);
     }
-    if network::is_secured(c) {
+    if network_header::is_secured(c) {
         return Read::Refused(Refusal::Form);
     }
-    plain_behind(f, network::header_length(f, c))
+    plain_behind(f, network_header::header_length(f, c))
 }
 
 // A plain APS frame that is to be sealed.
@@ -125,13 +128,13 @@ pub fn read_aps_plain(f: &[u8]) -> Read
         return Read::Refused(Refusal::Short);
     }
     let c = octets::octet(f, 0);
-    if !aps::form(c) {
+    if !aps_header::form(c) {
         return Read::Refused(Refusal::Form);
     }
-    if aps::is_secured(c) {
+    if aps_header::is_secured(c) {
         return Read::Refused(Refusal::Form);
     }
-    plain_behind(f, aps::header_length(c))
+    plain_behind(f, aps_header::header_length(c))
 }
 
 // A plain APS frame whose command is to be read.
@@ -142,17 +145,17 @@ pub fn read_aps_command(f: &[u8]) -> Read
         return Read::Refused(Refusal::Short);
     }
     let c = octets::octet(f, 0);
-    if !aps::form(c) {
+    if !aps_header::form(c) {
         return Read::Refused(Refusal::Form);
     }
-    let h = aps::header_length(c);
+    let h = aps_header::header_length(c);
     if f.len() < h {
         return Read::Refused(Refusal::Short);
     }
     if c % 4 != 1 {
         return Read::Refused(Refusal::Form);
     }
-    if aps::is_secured(c) {
+    if aps_header::is_secured(c) {
         return Read::Refused(Refusal::Form);
     }
     Read::Plain(h)

@@ -41,7 +41,8 @@ use Rattle.board.specs.Requests.{slotOf, linkOf}
 use Rattle.board.proofs.Found.{slot-place}
 use Rattle.seals.specs.Sealing.{longest, messageOf, isValid, genuine}
 use Rattle.network.specs.Opening.{floorAt, floorOf, rowFor}
-use Rattle.aps.specs.Opening.{longestAps, keyNamed}
+use Rattle.aps.specs.Opening.{keyNamed}
+use Rattle.frames.specs.Aps.{longestAps}
 use Rattle.network.specs.Opening as network
 use Rattle.aps.specs.Opening as aps
 

@@ -18,6 +18,7 @@ use Rattle.frames.specs.declared.Layer.{Layer}
 use Rattle.frames.specs.declared.Layer.the-variants.{Network, Aps}
 use Rattle.frames.specs.declared.Secured.{Secured}
 use Rattle.frames.specs.Security.{identifierOf}
+use Rattle.frames.specs.Aps.{longestAps}
 use Rattle.frames.specs.Reading.{Reading, refused, plain, secured, readNetwork, readAps, readNetworkPlain, readApsPlain}
 use Rattle.frames.proofs.Layers.{readingPlain}
 use Rattle.board.specs.declared.Board.{Board}
@@ -33,7 +34,7 @@ use Rattle.seals.proofs.Again.{Suited}
 use Rattle.network.specs.Opening.{floorOf, rowFor, openNetwork}
 use Rattle.network.specs.Sealing.{sealNetwork}
 use Rattle.aps.specs.Keys.{keyFor}
-use Rattle.aps.specs.Opening.{longestAps, withFloor, keyNamed, openAps}
+use Rattle.aps.specs.Opening.{withFloor, keyNamed, openAps}
 use Rattle.aps.specs.Sealing.{named, sealAps}
 use Rattle.aps.proofs.Sends.{sent-named}
 use Rattle.aps.proofs.RoundTrip.{suited-named}

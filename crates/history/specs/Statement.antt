@@ -21,7 +21,7 @@ use Rattle.frames.specs.Reading.{Reading, refused, plain, secured}
 use Rattle.board.specs.Sending.{top}
 use Rattle.seals.specs.Sealing.{longest, genuine}
 use Rattle.aps.specs.Keys.{keyFor}
-use Rattle.aps.specs.Opening.{longestAps}
+use Rattle.frames.specs.Aps.{longestAps}
 
 -- ---- the first statement
 

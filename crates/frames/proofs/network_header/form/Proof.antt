@@ -1,7 +1,7 @@
 use Rattle.octets.proofs.Choices.{tests}
 use Rattle.frames.specs.Network.{networkForm}
-use Rattle.frames.proofs.network.form.Statement.{statement}
-use Rattle.frames.proofs.network.form.Tie as tie
+use Rattle.frames.proofs.network_header.form.Statement.{statement}
+use Rattle.frames.proofs.network_header.form.Tie as tie
 
 returns : tie.Need-returns
 unfolding networkForm

@@ -1,7 +1,7 @@
 use mathlib.Core.Path.{refl}
 use Rattle.frames.specs.Aps.{apsKeyed}
-use Rattle.frames.proofs.aps.is_keyed.Statement.{statement}
-use Rattle.frames.proofs.aps.is_keyed.Tie as tie
+use Rattle.frames.proofs.aps_header.is_keyed.Statement.{statement}
+use Rattle.frames.proofs.aps_header.is_keyed.Tie as tie
 
 returns : tie.Need-returns
 unfolding apsKeyed

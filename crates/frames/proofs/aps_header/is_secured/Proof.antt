@@ -1,7 +1,7 @@
 use mathlib.Core.Path.{refl}
 use Rattle.frames.specs.Aps.{apsSecured}
-use Rattle.frames.proofs.aps.is_secured.Statement.{statement}
-use Rattle.frames.proofs.aps.is_secured.Tie as tie
+use Rattle.frames.proofs.aps_header.is_secured.Statement.{statement}
+use Rattle.frames.proofs.aps_header.is_secured.Tie as tie
 
 returns : tie.Need-returns
 unfolding apsSecured

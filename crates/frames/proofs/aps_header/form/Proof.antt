@@ -1,7 +1,7 @@
 use Rattle.octets.proofs.Choices.{tests}
 use Rattle.frames.specs.Aps.{apsForm, apsType, delivery, ackFormat}
-use Rattle.frames.proofs.aps.form.Statement.{statement}
-use Rattle.frames.proofs.aps.form.Tie as tie
+use Rattle.frames.proofs.aps_header.form.Statement.{statement}
+use Rattle.frames.proofs.aps_header.form.Tie as tie
 
 returns : tie.Need-returns
 unfolding apsForm apsType delivery ackFormat

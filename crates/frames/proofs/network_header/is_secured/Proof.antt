@@ -1,7 +1,7 @@
 use mathlib.Core.Path.{refl}
 use Rattle.frames.specs.Network.{networkSecured}
-use Rattle.frames.proofs.network.is_secured.Statement.{statement}
-use Rattle.frames.proofs.network.is_secured.Tie as tie
+use Rattle.frames.proofs.network_header.is_secured.Statement.{statement}
+use Rattle.frames.proofs.network_header.is_secured.Tie as tie
 
 returns : tie.Need-returns
 unfolding networkSecured

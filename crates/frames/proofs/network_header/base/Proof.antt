@@ -2,8 +2,8 @@ use mathlib.Core.Path.{refl}
 use native.Mathlib.Omega.{arith}
 use borrow.Author.Needs.{needs}
 use Rattle.frames.specs.Network.{networkBase}
-use Rattle.frames.proofs.network.base.Statement.{statement}
-use Rattle.frames.proofs.network.base.Tie as tie
+use Rattle.frames.proofs.network_header.base.Statement.{statement}
+use Rattle.frames.proofs.network_header.base.Tie as tie
 
 cast-destination : tie.Need-cast-destination
 cast-destination c = search needs

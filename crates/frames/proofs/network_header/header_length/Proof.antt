@@ -2,8 +2,8 @@ use native.Mathlib.Omega.{arith}
 use borrow.Author.Needs.{needs}
 use borrow.Author.Tests.{eq-eqb, ne-eqb}
 use Rattle.frames.specs.Network.{networkHeader}
-use Rattle.frames.proofs.network.header_length.Statement.{statement}
-use Rattle.frames.proofs.network.header_length.Tie as tie
+use Rattle.frames.proofs.network_header.header_length.Statement.{statement}
+use Rattle.frames.proofs.network_header.header_length.Tie as tie
 
 base-requires : tie.Need-base-requires
 base-requires c κs = search needs

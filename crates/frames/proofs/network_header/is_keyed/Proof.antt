@@ -1,7 +1,7 @@
 use Rattle.octets.proofs.Choices.{tests}
 use Rattle.frames.specs.Network.{networkKeyed}
-use Rattle.frames.proofs.network.is_keyed.Statement.{statement}
-use Rattle.frames.proofs.network.is_keyed.Tie as tie
+use Rattle.frames.proofs.network_header.is_keyed.Statement.{statement}
+use Rattle.frames.proofs.network_header.is_keyed.Tie as tie
 
 returns : tie.Need-returns
 unfolding networkKeyed

@@ -1,8 +1,8 @@
 use native.Mathlib.Omega.{arith}
 use Rattle.octets.proofs.Choices.{tests}
 use Rattle.frames.specs.Aps.{apsHeader, apsType, delivery, ackFormat}
-use Rattle.frames.proofs.aps.header_length.Statement.{statement}
-use Rattle.frames.proofs.aps.header_length.Tie as tie
+use Rattle.frames.proofs.aps_header.header_length.Statement.{statement}
+use Rattle.frames.proofs.aps_header.header_length.Tie as tie
 
 returns : tie.Need-returns
 unfolding apsHeader apsType delivery ackFormat
