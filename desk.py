@@ -24,7 +24,11 @@ def build():
     if PROGRAM.is_file():
         return True
     print("The bench is proved and built first; this takes some minutes.", flush=True)
-    return subprocess.run(["rt", "check", "bench"], cwd=ROOT).returncode == 0 and PROGRAM.is_file()
+    if subprocess.run(["rt", "check", "bench"], cwd=ROOT).returncode != 0:
+        return False
+    if not PROGRAM.is_file():
+        print("It is proved, but target/bin/bench was removed: remove target/ and run this again.")
+    return PROGRAM.is_file()
 
 
 def readable(line):
