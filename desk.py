@@ -8,6 +8,7 @@ it is proved). `--bench COMMAND` takes another program that speaks the bench lan
 """
 
 import argparse
+import shutil
 import subprocess
 import sys
 from pathlib import Path
@@ -23,6 +24,9 @@ def build():
     """Proves and builds the program where it is missing; whether it is there then."""
     if PROGRAM.is_file():
         return True
+    if shutil.which("rt") is None:
+        print("rt is not found: put the Rattle kit on the path.")
+        return False
     print("The bench is proved and built first; this takes some minutes.", flush=True)
     if subprocess.run(["rt", "check", "bench"], cwd=ROOT).returncode != 0:
         return False
@@ -51,7 +55,8 @@ def play(lines, bench, echo):
 def main():
     """Reads the arguments, builds, plays; the exit code."""
     parser = argparse.ArgumentParser(description=__doc__.split("\n")[0])
-    parser.add_argument("script", nargs="?", help="a file of lines (without it: standard input)")
+    parser.add_argument("script", nargs="?", type=argparse.FileType("rb"),
+                        help="a file of lines (without it: standard input)")
     parser.add_argument("--bench", help=BENCH_HELP)
     given = parser.parse_args()
     if given.bench is None and not build():
@@ -61,8 +66,7 @@ def main():
         if given.script is None:
             play(sys.stdin.buffer, bench, not sys.stdin.isatty())
         else:
-            with open(given.script, "rb") as script:
-                play(script, bench, True)
+            play(given.script, bench, True)
     return 0
 
 
