@@ -158,9 +158,9 @@ def nonce(sender, counter, control):
 
 
 def auxiliary_header(identifier, counter, sender, sequence):
-    """14 octets as sealed: level 0, extended nonce. APS sends the first 13."""
+    """As sealed: level 0, extended nonce; the key sequence number if the identifier is 1."""
     return (bytes([0x20 | (identifier & 3) << 3]) + counter.to_bytes(4, "little")
-            + sender.to_bytes(8, "little") + bytes([sequence]))
+            + sender.to_bytes(8, "little") + (bytes([sequence]) if identifier & 3 == 1 else b""))
 
 
 # ---- octets laid onto an output ----------------------------------------------------------------

@@ -153,5 +153,5 @@ def seal_aps(board, room, partner, identifier, frame):
     refuse_if(entry is None, 6)
     refuse_if(board.outgoing == TOP, 7)
     key = link_key(board.links[entry].key, identifier)
-    auxiliary = headers.auxiliary_header(identifier, board.outgoing, board.own, 0)[:13]
+    auxiliary = headers.auxiliary_header(identifier, board.outgoing, board.own, 0)
     return sealed_frame(board, headers.APS, key, header, auxiliary, frame)

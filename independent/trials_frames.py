@@ -278,14 +278,15 @@ def add_nonces(script):
                    expect=ok("0807060504030201" + "44332211" + last))
     script.add("nonce", ONES, 4294967295, 255, expect=ok("ff" * 12 + "fd"))
     script.add("nonce", ZERO, 0, 7, expect=ok("00" * 12 + "05"))
-    script.group("aux: level 0 and extended nonce; an identifier has two bits")
+    script.group("aux: level 0 and extended nonce; an identifier has two bits, and 1 sends the number")
     for identifier, first in ((0, "20"), (1, "28"), (2, "30"), (3, "38"), (4, "20"), (5, "28"),
                               (254, "30"), (255, "38")):
         script.add("aux", identifier, 287454020, "0102030405060708", 153,
-                   expect=ok(first + "44332211" + "0807060504030201" + "99"))
+                   expect=ok(first + "44332211" + "0807060504030201"
+                             + ("99" if first == "28" else "")))
     script.add("aux", 1, 5, SENDER, 7, expect=ok(AUX))
-    script.add("aux", 0, 4294967295, ONES, 255, expect=ok("20" + "ff" * 13))
-    script.add("aux", 3, 0, ZERO, 0, expect=ok("38" + "00" * 13))
+    script.add("aux", 0, 4294967295, ONES, 255, expect=ok("20" + "ff" * 12))
+    script.add("aux", 3, 0, ZERO, 0, expect=ok("38" + "00" * 12))
 
 
 OCTETS = "".join(f"{o:02x}" for o in range(0x40, 0x80))  # 64 octets, all different

@@ -70,7 +70,7 @@ def add_no_board(script):
     script.add("plainframe", "0800fcff00001e01", expect=ok("plain", 8))
     script.add("plainaps", "0107", expect=ok("plain", 2))
     script.add("nonce", ZERO, 0, 0, expect=ok("00" * 12 + "05"))
-    script.add("aux", 0, 0, ZERO, 0, expect=ok("20" + "00" * 13))
+    script.add("aux", 0, 0, ZERO, 0, expect=ok("20" + "00" * 12))
     for word in ("auth", "clear", "raise"):
         script.add(word, 0, 0, "", expect=ok("ee" * 32))
     script.group("a refused board is none")

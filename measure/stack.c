@@ -15,8 +15,8 @@ void network__sealing__seal_frame(void *, const void *b, const struct slice *f, 
 void network__opening__open_frame(void *, const void *b, const struct slice *f, const struct slice *al, const struct slice *fl, const struct slice *out);
 void aps__sealing__seal_frame(void *, const void *b, const struct slice *f, uint64_t a, u8 k, const struct slice *out);
 void aps__opening__open_frame(void *, const void *b, const struct slice *f, uint64_t given, const struct slice *out);
-uint8_t network__opening__look_frame(const void *b, const struct slice *f);
-uint8_t aps__opening__look_frame(const void *b, const struct slice *f, uint64_t given);
+uint8_t network__looking__look_frame(const void *b, const struct slice *f);
+uint8_t aps__looking__look_frame(const void *b, const struct slice *f, uint64_t given);
 void board__partners__remove_link(void *, const void *b, uint64_t a);
 void board__rows__forget(void *, const struct slice *, const struct slice *, size_t slot, uint64_t a);
 void commands__writer__write_command(void *, const void *b, uint8_t ack, const void *c, const struct slice *k, const struct slice *r, const struct slice *out);
@@ -35,8 +35,8 @@ static int64_t seal_aps(void) { aps__sealing__seal_frame(sent, board, &(struct s
 static int64_t open_aps(void) { aps__opening__open_frame(sent, board, &(struct slice){ apsframe, 108 }, 0, &(struct slice){ got, 116 }); return 0; }
 CASE(write_command, (commands__writer__write_command(sent, board, 1, command, &(struct slice){ key, 16 }, &(struct slice){ key, 0 }, &O), 0), noop())
 CASE(read_command, (commands__reader__read_command(told, &(struct slice){ out, 37 }, guard), 0), noop())
-CASE(look_network, (network__opening__look_frame(board, &(struct slice){ frame, 116 }), 0), noop())
-CASE(look_aps, (aps__opening__look_frame(board, &(struct slice){ apsframe, 108 }, 0), 0), noop())
+CASE(look_network, (network__looking__look_frame(board, &(struct slice){ frame, 116 }), 0), noop())
+CASE(look_aps, (aps__looking__look_frame(board, &(struct slice){ apsframe, 108 }, 0), 0), noop())
 CASE(add_link, (board__partners__add_link(sent, board, 77, key), 0), noop())
 CASE(remove_link, (board__partners__remove_link(sent, board, OWN), 0), noop())
 CASE(install, (board__keys__install(sent, board, &A, &F, 1, 6, key), 0), noop())

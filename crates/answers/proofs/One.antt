@@ -8,9 +8,11 @@ use Rattle.answers.specs.declared.Refusal.{Refusal}
 use Rattle.answers.specs.declared.Refusal.the-variants.{Room, Long, Short, Form, Security, NoKey, Top, Stale, Forged, Full, Command, Protection, Absent, Argument}
 use Rattle.answers.specs.declared.Outcome.{Outcome}
 use Rattle.answers.specs.declared.Outcome.the-variants.{Done, Refused}
+use Rattle.answers.specs.declared.Guard.{Guard}
+use Rattle.answers.specs.declared.Guard.the-variants.{Clear, Under}
 use Rattle.answers.specs.declared.Opened.{Opened}
 use Rattle.answers.specs.declared.Sealed.{Sealed}
-use Rattle.answers.specs.Numbers.{numberOf, Told, done, refused, told, FrameTold, opened, sealed, turnedDown, toldOpened, toldSealed}
+use Rattle.answers.specs.Numbers.{numberOf, Told, done, refused, told, ProtectionTold, clear, under, protectionOf, FrameTold, opened, sealed, turnedDown, toldOpened, toldSealed}
 use Rattle.answers.specs.declared.Opened.the-variants as opens
 use Rattle.answers.specs.declared.Sealed.the-variants as seals
 
@@ -53,14 +55,26 @@ outcome-back (Refused r) = ap Refused (refusal-back r)
 pub told-one : (o p : Outcome) → told o ≡ told p → o ≡ p
 told-one o p e = sym (outcome-back o) ∙ ap outcomeOf e ∙ outcome-back p
 
+guardOf : ProtectionTold → Guard
+guardOf clear = Clear
+guardOf (under k) = Under k
+
+guard-back : (g : Guard) → guardOf (protectionOf g) ≡ g
+unfolding guardOf
+guard-back Clear = refl
+guard-back (Under k) = refl
+
+pub guard-one : (g h : Guard) → protectionOf g ≡ protectionOf h → g ≡ h
+guard-one g h e = sym (guard-back g) ∙ ap guardOf e ∙ guard-back h
+
 openedOf : FrameTold → Opened
-openedOf (opened n a g) = opens.Frame n a g
+openedOf (opened n a p) = opens.Frame n a (guardOf p)
 openedOf (sealed n) = opens.Refused Room
 openedOf (turnedDown n) = opens.Refused (refusalOf n)
 
 opened-back : (o : Opened) → openedOf (toldOpened o) ≡ o
 unfolding openedOf
-opened-back (opens.Frame n a g) = refl
+opened-back (opens.Frame n a g) = ap (opens.Frame n a) (guard-back g)
 opened-back (opens.Refused r) = ap opens.Refused (refusal-back r)
 
 pub opened-one : (o p : Opened) → toldOpened o ≡ toldOpened p → o ≡ p

@@ -6,6 +6,7 @@ use Rattle.answers.specs.declared.Refusal.the-variants.{Room, Long, Shor
 use Rattle.answers.specs.declared.Outcome.{Outcome}
 use Rattle.answers.specs.declared.Outcome.the-variants.{Done, Refused}
 use Rattle.answers.specs.declared.Guard.{Guard}
+use Rattle.answers.specs.declared.Guard.the-variants.{Clear, Under}
 use Rattle.answers.specs.declared.Opened.{Opened}
 use Rattle.answers.specs.declared.Sealed.{Sealed}
 use Rattle.answers.specs.declared.Opened.the-variants as opens
@@ -36,15 +37,24 @@ abbrev pub told : Outcome → Told
 told Done = done
 told (Refused r) = refused (numberOf r)
 
+-- "the protection found (none or the key identifier)"
+pub data ProtectionTold : Type 0 where
+  clear : ProtectionTold
+  under : ℕ → ProtectionTold
+
+abbrev pub protectionOf : Guard → ProtectionTold
+protectionOf Clear = clear
+protectionOf (Under k) = under k
+
 -- what opening and sealing tell: length, sender and protection of a frame that opened, the length of one that was sealed,
 -- or a refusal's number
 pub data FrameTold : Type 0 where
-  opened : ℕ → ℕ → Guard → FrameTold
+  opened : ℕ → ℕ → ProtectionTold → FrameTold
   sealed : ℕ → FrameTold
   turnedDown : ℕ → FrameTold
 
 abbrev pub toldOpened : Opened → FrameTold
-toldOpened (opens.Frame n a g) = opened n a g
+toldOpened (opens.Frame n a g) = opened n a (protectionOf g)
 toldOpened (opens.Refused r) = turnedDown (numberOf r)
 
 abbrev pub toldSealed : Sealed → FrameTold

@@ -6,8 +6,9 @@ use mathlib.Core.List.{List}
 use Prim.Native.Nat.{ℕ, _+_, _≤_, _<_}
 use native.Mathlib.Omega.{arith}
 use lib.ListN.{length}
-use Rattle.aps.specs.Opening.{Opening, gave, withFloor, floored, admitted}
-use Rattle.answers.specs.declared.Guard.the-variants.{Under}
+use Rattle.aps.specs.Opening.{Opening, gave, withFloor, admitted}
+use Rattle.aps.specs.Code.{floored}
+use Rattle.answers.specs.Numbers.{under}
 use Rattle.answers.specs.Numbers.{FrameTold, opened, turnedDown}
 use Rattle.frames.specs.declared.Layer.the-variants.{Aps}
 use Rattle.frames.specs.declared.Secured.{Secured}
@@ -42,12 +43,14 @@ moves-this {i} h j d = let q : i ≡ j = cc in omega arith
 module _ (k f : List ℕ) (s : Secured) (o : List ℕ) (i : ℕ) (t : sound f s ≡ true) (room : 116 ≤ length o) where
   pub admit-plain : (w : Unsealed) (n g : ℕ) (p : List ℕ) → w ≡ Plain n → Seals·gave (toldUnsealed w) p ≡ unsealing k Aps f s o
       → g ≡ identifierOf (s .control) → (b : Board)
-      → gave (opened n (s .sender) (Under g)) (floored b (At i) (s .counter + 1)) p ≡ admitted b f s o i (messageOf k f s)
+      → gave (opened n (s .sender) (under g)) (floored b (At i) (s .counter + 1)) p ≡ admitted b f s o i (messageOf k f s)
   unfolding admitted
   admit-plain w n g p ew e eg b =
       let m = plain-tells k Aps f s o t room w n p ew e in
-      ap₂ (λ (x y : ℕ). gave (opened x (s .sender) (Under y)) (withFloor b i (s .counter + 1)) p) (m .count) eg
-      ∙ ap (gave (opened (s .header + length (m .message)) (s .sender) (Under (identifierOf (s .control)))) (withFloor b i (s .counter + 1))) (m .laid)
+      ap₂ (λ (x y : ℕ). gave (opened x (s .sender) (under y)) (withFloor b i (s .counter + 1)) p) (m .count) eg
+      ∙ ap
+      (gave (opened (s .header + length (m .message)) (s .sender) (under (identifierOf (s .control)))) (withFloor b i (s .counter + 1)))
+      (m .laid)
       ∙ sym (ap (admitted b f s o i) (m .fits))
 
   pub admit-forged : (w : Unsealed) (p : List ℕ) (r : FrameTold) (q : Place) (l : ℕ) → w ≡ Forged

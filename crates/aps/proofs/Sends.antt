@@ -16,7 +16,7 @@ use Rattle.frames.specs.declared.Layer.the-variants.{Aps}
 use Rattle.frames.specs.Reading.{plain, readApsPlain}
 use Rattle.frames.proofs.Found.{plain-to-seal}
 use Rattle.board.specs.declared.Board.{Board}
-use Rattle.board.specs.Sending.{top, spent, after, framed}
+use Rattle.board.specs.Sending.{top, raised, withOutgoing, spent, framed}
 use Rattle.seals.specs.declared.Sealed.{Sealed}
 use Rattle.seals.specs.declared.Sealed.the-variants.{Octets}
 use Rattle.seals.specs.Sealing.{sentOctets, sealedFrame, sealing, toldSealed, gave as Seals·gave}
@@ -38,21 +38,22 @@ sealable-aps k f h e a b c = record { headed = a; within = b; short = omega (ari
 -- a board that has this counter and this address, whatever else
 module _ (n own : ℕ) (key : List ℕ) (k : ℕ) (f : List ℕ) (h : ℕ) (o : List ℕ) where
   pub top-link : n ≡ top → (b : Board) → b .outgoing ≡ n → b .own ≡ own
-      → framed (turnedDown 7) (after (turnedDown 7) b) o ≡ sealedUnder b f o h k key
+      → framed (turnedDown 7) b o ≡ sealedUnder b f o h k key
   unfolding sealedUnder
   top-link q b en eo = simp (eq-eqb _ _ (en ∙ q))
 
   pub sealed-link : named k ≡ true → 2 ≤ h → h ≤ length f → length f ≤ 91 → 116 ≤ length o → (n ≡ top → ⊥)
       → (own-key : List ℕ) (w : Sealed) (m : ℕ) (p : List ℕ) → own-key ≡ keyFor key k → w ≡ Octets m
       → Seals·gave (toldSealed w) p ≡ sealing own-key Aps k n own 0 f h o → (b : Board) → b .outgoing ≡ n → b .own ≡ own
-      → framed (sealed m) (after (sealed m) b) p ≡ sealedUnder b f o h k key
+      → framed (sealed m) (withOutgoing b (raised (b .outgoing))) p ≡ sealedUnder b f o h k key
   unfolding sealedUnder spent
   sealed-link nk h2 hf h91 room nt x w m p ex ew e b en eo =
       let d = e ∙ sym (ap₂ (λ (y z : ℕ). sealing x Aps k y z 0 f h o) en eo) in
       let t = sealed-tells x Aps k (b .outgoing) (b .own) 0 f h o (named-most k nk) (sealable-aps k f h nk h2 hf h91) room w m p ew d in
       let c : m ≡ length f + overhead = omega (arith, t .0, sent-named k nk) in
       ap (λ (y : ℕ). framed (sealed y) (spent b) p) c
-      ∙ ap (framed (sealed (length f + overhead)) (spent b)) (t .1 ∙ ap (λ (y : List ℕ). onto (sealedFrame y Aps k (b .outgoing) (b .own) 0 f h) o) ex)
+      ∙ ap (framed (sealed (length f + overhead)) (spent b))
+      (t .1 ∙ ap (λ (y : List ℕ). onto (sealedFrame y Aps k (b .outgoing) (b .own) 0 f h) o) ex)
       ∙ simp (ne-eqb _ _ (λ q. nt (sym en ∙ q)))
 
 -- a plain frame has its header, and more than the control field in it

@@ -1,3 +1,4 @@
 pub mod Keys
 pub mod Opening
 pub mod Sealing
+pub mod Code

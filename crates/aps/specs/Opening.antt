@@ -9,7 +9,7 @@ use lib.ListN.{length}
 use Rattle.octets.specs.Choice.{if_then_else_}
 use Rattle.octets.specs.Lists.{onto}
 use Rattle.aps.specs.Keys.{keyFor}
-use Rattle.answers.specs.declared.Guard.the-variants.{Clear, Under}
+use Rattle.answers.specs.Numbers.{clear, under}
 use Rattle.answers.specs.Numbers.{FrameTold, opened, turnedDown}
 use Rattle.cipher.specs.Ccm.{Opened, valid, invalid}
 use Rattle.frames.specs.declared.Layer.the-variants.{Aps}
@@ -46,11 +46,6 @@ withFloor b i n =
       floor = n;
     })
 
--- the board that opening leaves: the floor of an entry, if any, is another
-abbrev pub floored : Board → Place → ℕ → Board
-floored b (At i) n = withFloor b i n
-floored b Absent n = b
-
 -- the key that a secured frame names, of an entry
 abbrev pub keyNamed : Link → Secured → List ℕ
 keyNamed l s = keyFor (l .key) (identifierOf (s .control))
@@ -61,7 +56,8 @@ keyNamed l s = keyFor (l .key) (identifierOf (s .control))
 unfoldable pub admitted : Board → List ℕ → Secured → List ℕ → ℕ → Opened → Opening
 admitted b f s o i invalid = gave (turnedDown 9) b o
 admitted b f s o i (valid m) =
-    gave (opened (s .header + length m) (s .sender) (Under (identifierOf (s .control)))) (withFloor b i (s .counter + 1)) (onto (plainFrame Aps f s m) o)
+    gave (opened (s .header + length m) (s .sender) (under (identifierOf (s .control)))) (withFloor b i (s .counter + 1))
+    (onto (plainFrame Aps f s m) o)
 
 -- 7 and 8, under a key of entry i
 unfoldable pub openedUnder : Board → List ℕ → Secured → List ℕ → ℕ → Opening
@@ -79,7 +75,7 @@ openedKeyed b f s o Absent = gave (turnedDown 6) b o
 
 unfoldable pub openedRead : Board → List ℕ → List ℕ → Reading → Opening
 openedRead b f o (refused n) = gave (turnedDown n) b o
-openedRead b f o (plain n) = gave (opened (length f) 0 Clear) b (onto f o)
+openedRead b f o (plain n) = gave (opened (length f) 0 clear) b (onto f o)
 openedRead b f o (secured s) = openedKeyed b f s o (linkOf (b .links) (s .sender))
 
 unfoldable pub openAps : Board → List ℕ → ℕ → List ℕ → Opening
@@ -88,7 +84,7 @@ openAps b f given o =
     else (if ltb longestAps (length f) then gave (turnedDown 2) b o
     else openedRead b f o (readAps f given))
 
--- ---- the look: whether the tag fits the key that is found, whatever the counter
+-- ---- the look: whether the tag of a frame that is not too long (2) fits the key that is found, whatever the counter
 
 unfoldable pub lookedKeyed : List Link → List ℕ → Secured → Place → Bool
 lookedKeyed ls f s (At i) = looking (keyNamed (linkAt ls i) s) f s
@@ -100,4 +96,4 @@ lookedRead ls f (plain n) = false
 lookedRead ls f (secured s) = lookedKeyed ls f s (linkOf ls (s .sender))
 
 unfoldable pub lookAps : Board → List ℕ → ℕ → Bool
-lookAps b f given = lookedRead (b .links) f (readAps f given)
+lookAps b f given = if ltb longestAps (length f) then false else lookedRead (b .links) f (readAps f given)

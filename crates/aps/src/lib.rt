@@ -1,11 +1,12 @@
 // APS frames: opening, sealing and looking.
 mod keys;
+mod looking;
 mod opening;
 mod sealing;
 
 use answers::Opened;
 use board::Board;
-pub use opening::look_frame;
+pub use looking::look_frame;
 pub use opening::open_frame;
 pub use sealing::seal_frame;
 

@@ -1,6 +1,7 @@
 // Opening, in document 01's order of judgement.
 use crate::After;
-use crate::keys::key_for;
+use crate::keys::identifier;
+use crate::keys::key_named;
 use answers::Guard;
 use answers::Opened;
 use answers::Refusal;
@@ -16,17 +17,11 @@ ghost use mathlib.Core.Bool.{true};
 ghost use Prim.Native.Nat.{ℕ, _≤_, _<_};
 ghost use lib.ListN.{length};
 ghost use Rattle.answers.specs.Numbers.{toldOpened, turnedDown, numberOf};
-ghost use Rattle.frames.specs.Security.{identifierOf};
 ghost use Rattle.board.specs.State.{linkAt};
 ghost use Rattle.board.specs.Requests.{linkOf};
 ghost use Rattle.seals.specs.Sealing.{messageOf, sound};
-ghost use Rattle.aps.specs.Opening.{gave, floored, keyNamed, admitted, openedUnder, openedKeyed, openAps, lookedKeyed, lookAps};
-
-fn identifier(s: Secured) -> u8
-    ensures { λ r. ⌜ r ≡ identifierOf (s .control) ⌝ }
-{
-    frames::identifier(s.control)
-}
+ghost use Rattle.aps.specs.Opening.{gave, keyNamed, admitted, openedUnder, openedKeyed, openAps};
+ghost use Rattle.aps.specs.Code.{floored};
 
 // What opening answers, and the entry whose floor it moves, if any. The stages below have what they
 // read of the board, not the board: each that had it would hold a copy while the cipher works.
@@ -44,14 +39,6 @@ fn down(why: Refusal) -> Heard
         entry: Place::Absent,
         floor: 0,
     }
-}
-
-// The key of an entry that a secured frame names.
-fn key_named(l: Link, s: Secured) -> [u8; 16]
-    ensures { λ r. ⌜ r ≡ keyNamed l s ⌝ }
-{
-    let key = l.key;
-    key_for(key, identifier(s))
 }
 
 // The tag is judged before the floor is touched.
@@ -149,32 +136,5 @@ pub fn open_frame(b: Board, f: &[u8], given: u64, out: &mut [u8]) -> After
     After {
         answer,
         board: next,
-    }
-}
-
-// Whether the tag of a secured frame fits the key that is found for it, whatever its counter. It
-// changes nothing, and a frame that is not secured or finds no key fits none.
-pub fn look_frame(b: Board, f: &[u8], given: u64) -> bool
-    ensures { λ r. ⌜ r ≡ lookAps b (now (f .entry)) given ⌝ }
-{
-    match frames::read_aps(f, given) {
-        Read::Refused(_) => false,
-        Read::Plain(_) => false,
-        Read::Secured(s) => {
-            let links = b.links;
-            look_keyed(links, f, s)
-        }
-    }
-}
-
-fn look_keyed(links: [Link; 8], f: &[u8], s: Secured) -> bool
-    ensures { λ r. ⌜ r ≡ lookedKeyed links (now (f .entry)) s (linkOf links (s .sender)) ⌝ }
-{
-    match board::link_of(links, s.sender) {
-        Place::At(i) => {
-            let l = links[i];
-            seals::look(key_named(l, s), f, s)
-        }
-        Place::Absent => false,
     }
 }

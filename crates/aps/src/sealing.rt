@@ -15,7 +15,7 @@ ghost use Prim.Native.Nat.{_≤_};
 ghost use lib.ListN.{length};
 ghost use Rattle.answers.specs.Numbers.{toldSealed};
 ghost use Rattle.board.specs.Requests.{linkOf};
-ghost use Rattle.board.specs.Sending.{framed, after};
+ghost use Rattle.board.specs.Sending.{withOutgoing, counterAfter, framed};
 ghost use Rattle.aps.specs.Sealing.{named, sealedUnder, sealedFor, sealAps};
 
 // Whether an identifier names a key of a link entry.
@@ -38,7 +38,7 @@ fn seal_under(
     out: &mut [u8],
 ) -> Sealed
     requires { ⌜ ((2 ≤ h) × (h ≤ length (now f))) × ((length (now f) ≤ 91) × ((116 ≤ length (now out)) × (named k ≡ true))) ⌝ }
-    ensures { λ r. ⌜ ((b : Board) → b .outgoing ≡ outgoing → b .own ≡ own → framed (toldSealed r) (after (toldSealed r) b) (now (out .exit)) ≡ sealedUnder b (now (f .entry)) (now (out .entry)) h k key) ⌝ }
+    ensures { λ r. ⌜ ((b : Board) → b .outgoing ≡ outgoing → b .own ≡ own → framed (toldSealed r) (withOutgoing b (counterAfter (toldSealed r) (b .outgoing))) (now (out .exit)) ≡ sealedUnder b (now (f .entry)) (now (out .entry)) h k key) ⌝ }
 {
     if outgoing == 4294967295 {
         return Sealed::Refused(Refusal::Top);
@@ -61,7 +61,7 @@ fn seal_for(
     out: &mut [u8],
 ) -> Sealed
     requires { ⌜ ((2 ≤ h) × (h ≤ length (now f))) × ((length (now f) ≤ 91) × ((116 ≤ length (now out)) × (named k ≡ true))) ⌝ }
-    ensures { λ r. ⌜ ((b : Board) → b .links ≡ links → b .outgoing ≡ outgoing → b .own ≡ own → framed (toldSealed r) (after (toldSealed r) b) (now (out .exit)) ≡ sealedFor b (now (f .entry)) (now (out .entry)) h k (linkOf (b .links) a)) ⌝ }
+    ensures { λ r. ⌜ ((b : Board) → b .links ≡ links → b .outgoing ≡ outgoing → b .own ≡ own → framed (toldSealed r) (withOutgoing b (counterAfter (toldSealed r) (b .outgoing))) (now (out .exit)) ≡ sealedFor b (now (f .entry)) (now (out .entry)) h k (linkOf (b .links) a)) ⌝ }
 {
     match board::link_of(links, a) {
         Place::At(i) => {
@@ -82,7 +82,7 @@ fn seal_read(
     k: u8,
     out: &mut [u8],
 ) -> Sealed
-    ensures { λ r. ⌜ ((b : Board) → b .links ≡ links → b .outgoing ≡ outgoing → b .own ≡ own → framed (toldSealed r) (after (toldSealed r) b) (now (out .exit)) ≡ sealAps b (now (f .entry)) a k (now (out .entry))) ⌝ }
+    ensures { λ r. ⌜ ((b : Board) → b .links ≡ links → b .outgoing ≡ outgoing → b .own ≡ own → framed (toldSealed r) (withOutgoing b (counterAfter (toldSealed r) (b .outgoing))) (now (out .exit)) ≡ sealAps b (now (f .entry)) a k (now (out .entry))) ⌝ }
 {
     if out.len() < 116 {
         return Sealed::Refused(Refusal::Room);

@@ -16,6 +16,8 @@ use answers::Guard;
 use board::Board;
 use commands::Command;
 use commands::Reading;
+use commands::Requested;
+use commands::Transported;
 
 // A command by its word's number, and its numbers, each at its field's place in a `write` line.
 struct Spelt {
@@ -107,40 +109,51 @@ pub(crate) fn write(v: [u64; 7], key: Frame, rest: Frame, b: Board, lent: usize)
 fn command_of(v: [u64; 7]) -> Command {
     let w = v[2];
     match w {
-        0 => Command::Transport1((v[4] % 256) as u8, v[5], v[6]),
-        1 => Command::Transport4(v[4], v[5]),
-        2 => Command::Transport2(v[4], (v[5] % 256) as u8),
-        3 => Command::Transport3(v[4], (v[5] % 256) as u8),
-        4 => Command::Update(v[3], (v[4] % 65536) as u16, (v[5] % 256) as u8),
-        5 => Command::Remove(v[3]),
-        6 => Command::Request2(v[3]),
-        7 => Command::Request4,
-        8 => Command::Switch((v[3] % 256) as u8),
+        0..=3 => Command::TransportKey(transported_of(v)),
+        4 => Command::UpdateDevice(v[3], (v[4] % 65536) as u16, (v[5] % 256) as u8),
+        5 => Command::RemoveDevice(v[3]),
+        6 => Command::RequestKey(Requested::Application(v[3])),
+        7 => Command::RequestKey(Requested::TrustCentre),
+        8 => Command::SwitchKey((v[3] % 256) as u8),
         9 => Command::Tunnel(v[3]),
-        10 => Command::Verify((v[3] % 256) as u8, v[4]),
-        11 => Command::Confirm((v[3] % 256) as u8, (v[4] % 256) as u8, v[5]),
-        12 => Command::Down,
-        _ => Command::Up,
+        10 => Command::VerifyKey((v[3] % 256) as u8, v[4]),
+        11 => Command::ConfirmKey((v[3] % 256) as u8, (v[4] % 256) as u8, v[5]),
+        12 => Command::RelayDownstream,
+        _ => Command::RelayUpstream,
+    }
+}
+
+fn transported_of(v: [u64; 7]) -> Transported {
+    let w = v[2];
+    match w {
+        0 => Transported::Network((v[4] % 256) as u8, v[5], v[6]),
+        1 => Transported::TrustCentre(v[4], v[5]),
+        2 => Transported::ApplicationMaster(v[4], (v[5] % 256) as u8),
+        _ => Transported::ApplicationLink(v[4], (v[5] % 256) as u8),
     }
 }
 
 // The same backwards.
 fn spelling(c: Command) -> Spelt {
     match c {
-        Command::Transport1(q, d, s) => of(0, 0, q as u64, d, s),
-        Command::Transport4(d, s) => of(1, 0, d, s, 0),
-        Command::Transport2(p, i) => of(2, 0, p, i as u64, 0),
-        Command::Transport3(p, i) => of(3, 0, p, i as u64, 0),
-        Command::Update(d, s, t) => of(4, d, s as u64, t as u64, 0),
-        Command::Remove(t) => of(5, t, 0, 0, 0),
-        Command::Request2(p) => of(6, p, 0, 0, 0),
-        Command::Request4 => of(7, 0, 0, 0, 0),
-        Command::Switch(q) => of(8, q as u64, 0, 0, 0),
+        Command::TransportKey(key) => match key {
+            Transported::Network(q, d, s) => of(0, 0, q as u64, d, s),
+            Transported::TrustCentre(d, s) => of(1, 0, d, s, 0),
+            Transported::ApplicationMaster(p, i) => of(2, 0, p, i as u64, 0),
+            Transported::ApplicationLink(p, i) => of(3, 0, p, i as u64, 0),
+        },
+        Command::UpdateDevice(d, s, t) => of(4, d, s as u64, t as u64, 0),
+        Command::RemoveDevice(t) => of(5, t, 0, 0, 0),
+        Command::RequestKey(key) => match key {
+            Requested::Application(p) => of(6, p, 0, 0, 0),
+            Requested::TrustCentre => of(7, 0, 0, 0, 0),
+        },
+        Command::SwitchKey(q) => of(8, q as u64, 0, 0, 0),
         Command::Tunnel(d) => of(9, d, 0, 0, 0),
-        Command::Verify(t, s) => of(10, t as u64, s, 0, 0),
-        Command::Confirm(s, t, d) => of(11, s as u64, t as u64, d, 0),
-        Command::Down => of(12, 0, 0, 0, 0),
-        Command::Up => of(13, 0, 0, 0, 0),
+        Command::VerifyKey(t, s) => of(10, t as u64, s, 0, 0),
+        Command::ConfirmKey(s, t, d) => of(11, s as u64, t as u64, d, 0),
+        Command::RelayDownstream => of(12, 0, 0, 0, 0),
+        Command::RelayUpstream => of(13, 0, 0, 0, 0),
     }
 }
 

@@ -86,7 +86,15 @@ pub rows-there : (al : List ℕ) (i n a : ℕ) → i + n ≤ length al → findR
 unfolding findRow
 rows-there al i n a h = let e : min n (length al - i) ≡ n = omega arith in ap (firstAt (λ r. eqb (getD al r 0) a) i) e
 
--- a slot, or a link entry, that was found is one of those there are
+-- a row, a slot, or a link entry, that was found is one of those there are
+pub row-place : (al : List ℕ) (i n a r : ℕ) → findRow al i n a ≡ At r → r < length al
+unfolding findRow
+row-place al i n a r e =
+    let w = first-found (λ k. eqb (getD al k 0) a) (min n (length al - i)) i r e in
+    let low = w .low in
+    let high = w .high in
+    omega arith
+
 pub slot-place : (ss : List Slot) (n i : ℕ) → slotOf ss n ≡ At i → i < 2
 unfolding slotOf
 slot-place ss n i e = first-found (λ k. carries (slotAt ss k) n) 2 0 i e .high

@@ -23,22 +23,20 @@ withOutgoing b n =
       links = b .links;
     }
 
--- the counter raised by 1; at its top it stays
+-- "raises the outgoing counter by 1"; "never lowered": at its top it stays
 abbrev pub raised : ℕ → ℕ
 raised c = if eqb c top then top else c + 1
 
+-- the board that sealing leaves
 unfoldable pub spent : Board → Board
 spent b = withOutgoing b (raised (b .outgoing))
 
--- the counter that an answer leaves: only a frame that was sealed spends one
+-- the outgoing counter behind an answer: sealing a frame "raises the outgoing counter by 1", a refusal leaves it ("state, lists
+-- and output stay"), and opening has no part in it
 abbrev pub counterAfter : FrameTold → ℕ → ℕ
-counterAfter (opened n a g) c = c
 counterAfter (sealed n) c = raised c
 counterAfter (turnedDown n) c = c
-
--- the board that an answer leaves
-abbrev pub after : FrameTold → Board → Board
-after t b = withOutgoing b (counterAfter t (b .outgoing))
+counterAfter (opened n a g) c = c
 
 -- what a request over a frame answers, and the board and the output that it leaves
 pub record Framed : Type 0 where

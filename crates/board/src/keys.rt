@@ -21,10 +21,7 @@ ghost use Rattle.board.specs.Requests.{install as Requests·install, swi
 fn carries_number(s: Slot, seq: u8) -> bool
     ensures { λ r. ⌜ r ≡ carries s seq ⌝ }
 {
-    if !s.present {
-        return false;
-    }
-    s.seq == seq
+    s.present && s.seq == seq
 }
 
 fn holds_key(s: Slot, seq: u8, key: [u8; 16]) -> bool

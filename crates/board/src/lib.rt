@@ -18,7 +18,6 @@ pub use partners::remove_link;
 pub use rows::find_row;
 pub use rows::forget;
 pub use rows::lists_fit;
-pub use rows::put_row;
 pub use sending::counter_after;
 pub use state::make;
 

@@ -61,7 +61,7 @@ fn put_floor(l: &mut [u32], r: usize, n: u32)
 }
 
 // Row r gets an address and a floor; a list that has no such row stays.
-pub fn put_row(addrs: &mut [u64], floors: &mut [u32], r: usize, a: u64, floor: u32)
+pub(crate) fn put_row(addrs: &mut [u64], floors: &mut [u32], r: usize, a: u64, floor: u32)
     ensures { λ _. ⌜ now (addrs .exit) ≡ set (now (addrs .entry)) r a ⌝ }
     ensures { λ _. ⌜ now (floors .exit) ≡ set (now (floors .entry)) r floor ⌝ }
 {
@@ -102,7 +102,8 @@ pub(crate) fn free_rows(addrs: &mut [u64], floors: &mut [u32], from: usize, n: u
 pub fn forget(addrs: &mut [u64], floors: &mut [u32], slot: usize, a: u64) -> Outcome
     ensures { λ r. ⌜ freeing (told r) (now (addrs .exit)) (now (floors .exit)) ≡ Requests·forget half (now (addrs .entry)) (now (floors .entry)) slot a ⌝ }
 {
-    if !lists_fit(addrs, floors) {
+    let fit = lists_fit(addrs, floors);
+    if !fit {
         return Outcome::Refused(Refusal::Room);
     }
     if 1 < slot {

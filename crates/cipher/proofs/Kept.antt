@@ -17,7 +17,7 @@ use Rattle.cipher.specs.Sbox.{sbox, sboxTable}
 use Rattle.cipher.specs.Aes.{subBytes, shiftRows, mixed, below, mixColumns, addBlocks, addRoundKey, roundOf, lastRound, cipher, rcon, word, rotWord, addWords, turnedWord, nextKey, keyAt, keyExpansion, aes128}
 use Rattle.cipher.specs.Blocks.{twoOctets, blockFrom, blockCount, blocks, over, zeroBlock}
 use Rattle.cipher.specs.Ccm.{firstBlock, authData, absorbed, macOf, tagOf, keyStream, streamed, masked, ccmSeal}
-use Rattle.cipher.specs.Hash.{paddedAfter, padded, hashedIn, hashOf, plusEach, keyedHash}
+use Rattle.cipher.specs.Hash.{padded, hashedIn, hashOf, plusEach, keyedHash}
 use Rattle.cipher.proofs.Table.{sbox-octet}
 
 two-octets : (n : ℕ) → Octets (twoOctets n)
@@ -178,13 +178,13 @@ hashed-octets h (suc n) f p o =
     (add-octets (aes128 h (f 0)) (f 0) (aes-octets h (f 0) o) (p 0))
 
 pub hash-octets : (d : List ℕ) → Octets d → Octets (hashOf d)
-unfolding hashOf padded paddedAfter blocks
+unfolding hashOf padded blocks
 hash-octets d o =
     hashed-octets zeroBlock (blockCount (length (padded d))) (λ n. blockFrom (padded d) (16 * n)) (λ i. block-octets (padded d) (16 * i) pads)
     (tab-octets 16 (λ i. 0) (λ i h. omega arith))
   where
     pads : Octets (padded d)
-    pads = append-octets d _ o (cons-octets 0x80 _ (omega arith) (append-octets _ _ (zeros-octets ((29 - length d % 16) % 16)) (two-octets (8 * (0 + length d)))))
+    pads = append-octets d _ o (cons-octets 0x80 _ (omega arith) (append-octets _ _ (zeros-octets ((29 - length d % 16) % 16)) (two-octets (8 * length d))))
 
 pub keyed-octets : (k d : List ℕ) → Octets k → Octets d → Octets (keyedHash k d)
 unfolding keyedHash

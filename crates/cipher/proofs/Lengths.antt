@@ -5,6 +5,7 @@ use mathlib.Core.Bool.{Bool, true, false}
 use mathlib.Core.List.{List, [], _∷_}
 use Prim.Native.Nat.{ℕ, _+_, _-_, _≤_}
 use native.Mathlib.Omega.{arith}
+use lib.Dec.{ltb}
 use lib.ListN.{length}
 use lib.Seq.{length-take-le}
 use borrow.Author.Tests.{le-leb}
@@ -27,7 +28,7 @@ tag-four = refl
 -- a message that opened has all octets but the tag's
 pub valid-length : (E : List ℕ → List ℕ) (M : ℕ) (n a c m : List ℕ) → M ≤ length c → ccmOpen E M n a c ≡ valid m → length m ≡ length c - M
 unfolding ccmOpen
-valid-length E M n a c m h e = go (fits E M n a c) e
+valid-length E M n a c m h e = parsed (ltb (length c) M) e
   where
     p : List ℕ
     p = streamed E n (bodyOf M c)
@@ -38,6 +39,10 @@ valid-length E M n a c m h e = go (fits E M n a c) e
     go : (t : Bool) → (if t then valid p else invalid) ≡ valid m → length m ≡ length c - M
     go true q = let r : p ≡ m = cc in ap length (sym r) ∙ long
     go false q = let z : _≡_ {A = ℕ} 0 1 = cc in absurd (omega arith)
+
+    parsed : (t : Bool) → (if t then invalid else (if fits E M n a c then valid p else invalid)) ≡ valid m → length m ≡ length c - M
+    parsed true q = let z : _≡_ {A = ℕ} 0 1 = cc in absurd (omega arith)
+    parsed false q = go (fits E M n a c) q
 
 module _ (M : ℕ) (k n a : List ℕ) (t : tagLength M ≡ true) (ha : length a ≤ most) where
   -- sealing with room

@@ -9,7 +9,7 @@ use native.Mathlib.Omega.{arith}
 use lib.Dec.{eqb, leb}
 use lib.ListN.{length, take, drop, length-drop}
 use lib.Seq.{take-at, take-all, length-take-le}
-use borrow.Author.Tests.{eqb-true, leb-true}
+use borrow.Author.Tests.{eqb-true, leb-true, le-ltb}
 use Rattle.octets.proofs.Pasted.{pasted-onto}
 use Rattle.octets.specs.Choice.{if_then_else_, both}
 use Rattle.octets.specs.Lists.{at, eqList, onto, pasted}
@@ -67,7 +67,7 @@ module _ (E : List ℕ → List ℕ) (M : ℕ) (n a c o : List ℕ) (m≤ : M �
 
   pub opened-false : fits E M n a c ≡ false → gave (refused 9) o ≡ openedOnto (ccmOpen E M n a c) o
   unfolding ccmOpen
-  opened-false e = rw e refl
+  opened-false e = rw (le-ltb _ _ m≤c, e) refl
 
   pub opened-true : (z p q : List ℕ) → length c - M ≤ length o → fits E M n a c ≡ true → p ≡ onto plainOf z
       → q ≡ pasted o 0 (take (length c - M) p) → gave (made (length c - M)) q ≡ openedOnto (ccmOpen E M n a c) o
@@ -75,4 +75,4 @@ module _ (E : List ℕ → List ℕ) (M : ℕ) (n a c o : List ℕ) (m≤ : M �
   opened-true z p q h e ep eq =
       let f = plain-front z p ep in
       let l : length plainOf ≤ length o = rw plain-length h in
-      rw e (ap₂ (λ (k : ℕ) (x : List ℕ). gave (made k) x) (sym plain-length) (pasted-onto q o plainOf (eq ∙ ap (pasted o 0) f) l))
+      rw (le-ltb _ _ m≤c, e) (ap₂ (λ (k : ℕ) (x : List ℕ). gave (made k) x) (sym plain-length) (pasted-onto q o plainOf (eq ∙ ap (pasted o 0) f) l))

@@ -4,7 +4,7 @@ use mathlib.Core.Path.{_≡_, refl, sym, ap, ap₂, _∙_}
 use mathlib.Core.Bool.{Bool, true, false}
 use mathlib.Core.List.{List, _∷_, _++_}
 use Prim.Native.Nat.{ℕ, suc, _+_, _-_, _*_, _/_, _%_, _<_, _≤_}
-use native.Mathlib.Nat.{add-zero}
+use native.Mathlib.Nat.{add-zero, zero-add}
 use native.Mathlib.Omega.{arith}
 use lib.Bits.{bitXor}
 use lib.Dec.{ltb}
@@ -13,7 +13,8 @@ use lib.Seq.{getD-append-add}
 use borrow.Author.Tests.{ltb-true, ltb-false}
 use Rattle.octets.specs.Lists.{at, tab}
 use Rattle.cipher.specs.Blocks.{twoOctets, blockFrom, blocks, zeroBlock, over}
-use Rattle.cipher.specs.Hash.{padded, paddedAfter, hashedIn, hashOf, plusEach}
+use Rattle.cipher.specs.Code.{paddedAfter}
+use Rattle.cipher.specs.Hash.{padded, hashedIn, hashOf, plusEach}
 use Rattle.cipher.proofs.Parsed.{blocks-first}
 
 module _ (b : ℕ) (d : List ℕ) where
@@ -81,6 +82,12 @@ module _ (b : ℕ) (d : List ℕ) where
       go true e = pad-zero i h (ltb-true (i + 2) end e)
       go false e = let f = ltb-false (i + 2) end e in pad-out i (omega arith)
 
+-- nothing went before
+pub pad-none : (d : List ℕ) → paddedAfter 0 d ≡ padded d
+unfolding padded paddedAfter
+pad-none d =
+    ap (λ (k : ℕ). d ++ (0x80 ∷ replicate ((29 - length d % 16) % 16) 0 ++ twoOctets (8 * k))) (zero-add (length d))
+
 -- a first block k, and then d: the blocks that a hash takes in behind it
 pub pad-behind : (g : ℕ → ℕ) (d : List ℕ) → blocks (padded (tab 16 g ++ d)) ≡ tab 16 g ∷ blocks (paddedAfter 16 d)
 unfolding padded paddedAfter blockFrom
@@ -92,7 +99,7 @@ pad-behind g d =
     turned : length (tab 16 g ++ d) % 16 ≡ length d % 16
     turned = omega arith
 
-    count : 0 + length (tab 16 g ++ d) ≡ 16 + length d
+    count : length (tab 16 g ++ d) ≡ 16 + length d
     count = omega arith
 
 -- the same, of what the calls answered

@@ -1,20 +1,23 @@
 -- Opening undoes sealing, for every key, nonce, authenticated octets, message and length of tag: the law that the frame work cites.
 -- Assumes nothing.
 use mathlib.Core.Path.{_≡_, refl, sym, ap, ap₂, _∙_}
-use mathlib.Core.Bool.{true}
+use mathlib.Core.Bool.{Bool, true, false}
 use mathlib.Core.List.{List, [], _∷_, _++_}
 use Prim.Native.Nat.{ℕ, _+_, _-_, _/_, _%_, _<_, _≤_}
 use native.Mathlib.Omega.{arith}
 use lib.Bits.{bitXor}
+use lib.Dec.{ltb}
 use lib.ListN.{length, take, drop, length-append, length-drop, take-append-drop}
 use lib.Seq.{take-at, drop-at, length-take-le}
+use borrow.Author.Tests.{le-ltb, ltb-false}
 use Rattle.octets.proofs.Compared.{same-self, same-equal}
 use Rattle.octets.proofs.Tabs.{getD-tab, tab-ext, tab-at}
 use Rattle.octets.proofs.Xor.{xor-twice}
+use Rattle.octets.specs.Choice.{if_then_else_}
 use Rattle.octets.specs.Lists.{at, tab, eqList}
 use Rattle.cipher.specs.Aes.{addBlocks, addRoundKey, lastRound, cipher, aes128}
 use Rattle.cipher.specs.Blocks.{zeroBlock, over}
-use Rattle.cipher.specs.Ccm.{authData, firstBlock, absorbed, keyStream, streamed, masked, macOf, tagOf, ccmSeal, bodyOf, sealOf, fits, ccmOpen, valid}
+use Rattle.cipher.specs.Ccm.{authData, firstBlock, absorbed, keyStream, streamed, masked, macOf, tagOf, ccmSeal, bodyOf, sealOf, fits, ccmOpen, valid, invalid}
 use Rattle.cipher.proofs.Streams.{octetAt, streamed-length, masked-length}
 
 module _ (E : List ℕ → List ℕ) (n : List ℕ) where
@@ -93,16 +96,33 @@ module _ (E : List ℕ → List ℕ) (g : Blocky E) (M : ℕ) (n a m : List ℕ)
 
   pub open-seal : ccmOpen E M n a (ccmSeal E M n a m) ≡ valid m
   unfolding ccmOpen
-  open-seal = rw sealed-fits (ap valid plain)
+  open-seal = rw (le-ltb _ _ tagged, sealed-fits) (ap valid plain)
+    where
+      tagged : M ≤ length (ccmSeal E M n a m)
+      tagged = omega (arith, seal-length E M n a m)
 
--- nothing else opens: what opens to m is what sealing m gives
-pub open-only : (E : List ℕ → List ℕ) (M : ℕ) (n a c : List ℕ) → M ≤ length c
+fits-only : (E : List ℕ → List ℕ) (M : ℕ) (n a c : List ℕ) → M ≤ length c
     → fits E M n a c ≡ true → c ≡ ccmSeal E M n a (streamed E n (bodyOf M c))
 unfolding fits ccmSeal
-open-only E M n a c h e =
+fits-only E M n a c h e =
     sym (take-append-drop (length c - M) c)
     ∙ ap₂ (λ (x y : List ℕ). x ++ y) (sym (streamed-twice E n (bodyOf M c)))
     (sym (masked-twice E n M (sealOf M c) long) ∙ ap (masked E M n) (same-equal _ _ e))
   where
     long : length (sealOf M c) ≡ M
     long = length-drop (length c - M) c ∙ (omega arith)
+
+-- nothing else opens: what opens to m is, octet by octet, what sealing m gives
+pub open-only : (E : List ℕ → List ℕ) (M : ℕ) (n a c m : List ℕ) → ccmOpen E M n a c ≡ valid m → c ≡ ccmSeal E M n a m
+unfolding ccmOpen
+open-only E M n a c m e = parsed (ltb (length c) M) refl e
+  where
+    fitting : M ≤ length c → (t : Bool) → fits E M n a c ≡ t → (if t then valid (streamed E n (bodyOf M c)) else invalid) ≡ valid m
+        → c ≡ ccmSeal E M n a m
+    fitting h true f q = let r : streamed E n (bodyOf M c) ≡ m = cc in fits-only E M n a c h f ∙ ap (ccmSeal E M n a) r
+    fitting h false f q = let z : _≡_ {A = ℕ} 0 1 = cc in absurd (omega arith)
+
+    parsed : (t : Bool) → ltb (length c) M ≡ t
+        → (if t then invalid else (if fits E M n a c then valid (streamed E n (bodyOf M c)) else invalid)) ≡ valid m → c ≡ ccmSeal E M n a m
+    parsed true f q = let z : _≡_ {A = ℕ} 0 1 = cc in absurd (omega arith)
+    parsed false f q = fitting (ltb-false (length c) M f) (fits E M n a c) refl q

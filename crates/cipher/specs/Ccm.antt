@@ -5,6 +5,7 @@ use mathlib.Core.Bool.{Bool}
 use mathlib.Core.List.{List, [], _∷_, _++_}
 use Prim.Native.Nat.{ℕ, _+_, _-_, _*_, _/_, _%_, min}
 use lib.Bits.{bitXor}
+use lib.Dec.{ltb}
 use lib.ListN.{length, take, drop}
 use Rattle.octets.specs.Choice.{if_then_else_}
 use Rattle.octets.specs.Lists.{at, tab, eqList}
@@ -81,5 +82,8 @@ sealOf M c = drop (length c - M) c
 unfoldable pub fits : (List ℕ → List ℕ) → ℕ → List ℕ → List ℕ → List ℕ → Bool
 fits E M n a c = eqList (masked E M n (sealOf M c)) (tagOf E M n a (streamed E n (bodyOf M c)))
 
+-- A.3.1, 1: "Parse the message c as C || U .. If this operation fails, output 'invalid' and stop."
 unfoldable pub ccmOpen : (List ℕ → List ℕ) → ℕ → List ℕ → List ℕ → List ℕ → Opened
-ccmOpen E M n a c = if fits E M n a c then valid (streamed E n (bodyOf M c)) else invalid
+ccmOpen E M n a c =
+    if ltb (length c) M then invalid
+    else (if fits E M n a c then valid (streamed E n (bodyOf M c)) else invalid)

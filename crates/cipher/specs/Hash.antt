@@ -8,13 +8,9 @@ use Rattle.octets.specs.Lists.{at, tab}
 use Rattle.cipher.specs.Aes.{aes128, addBlocks}
 use Rattle.cipher.specs.Blocks.{twoOctets, blocks, zeroBlock, over}
 
--- "0x80, zeros until the length is 14 beyond a multiple of 16, then the bit length in 2 octets": behind d, where
--- b octets, a multiple of 16, went before it
-unfoldable pub paddedAfter : ℕ → List ℕ → List ℕ
-paddedAfter b d = d ++ (0x80 ∷ replicate ((29 - length d % 16) % 16) 0 ++ twoOctets (8 * (b + length d)))
-
+-- "0x80, zeros until the length is 14 beyond a multiple of 16, then the bit length in 2 octets"
 unfoldable pub padded : List ℕ → List ℕ
-padded d = paddedAfter 0 d
+padded d = d ++ (0x80 ∷ replicate ((29 - length d % 16) % 16) 0 ++ twoOctets (8 * length d))
 
 -- Hash₀ = 0¹²⁸; Hashⱼ = E(Hashⱼ₋₁, Mⱼ) ⊕ Mⱼ for j = 1, .., t
 unfoldable pub hashedIn : List ℕ → List ℕ → List ℕ

@@ -4,5 +4,6 @@ pub mod Aes
 pub mod Blocks
 pub mod Ccm
 pub mod Hash
+pub mod Code
 pub mod Answers
 pub mod Cases

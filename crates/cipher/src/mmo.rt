@@ -9,7 +9,8 @@ ghost use lib.ListN.{length};
 ghost use Rattle.octets.specs.Lists.{at};
 ghost use Rattle.cipher.specs.Sbox.{sboxTable};
 ghost use Rattle.cipher.specs.Blocks.{blocks, blockFrom, over};
-ghost use Rattle.cipher.specs.Hash.{paddedAfter, hashedIn, hashOf, plusEach, keyedHash};
+ghost use Rattle.cipher.specs.Code.{paddedAfter};
+ghost use Rattle.cipher.specs.Hash.{hashedIn, hashOf, plusEach, keyedHash};
 
 // Octet i of d, padded, where b octets went before it.
 fn padded_octet(d: &[u8], b: usize, i: usize) -> u8

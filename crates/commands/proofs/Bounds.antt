@@ -12,7 +12,7 @@ use lib.Seq.{take-all}
 use borrow.Author.Tests.{ltb-false}
 use Rattle.octets.proofs.Choices.{choose}
 use Rattle.octets.specs.Lists.{at}
-use Rattle.answers.specs.declared.Guard.{Guard}
+use Rattle.answers.specs.Numbers.{ProtectionTold}
 use Rattle.frames.specs.Reading.{readApsCommand}
 use Rattle.tlvs.proofs.Walks.{Inside, walked-inside}
 use Rattle.tlvs.specs.declared.Walked.{Walked}
@@ -31,7 +31,7 @@ use Rattle.commands.specs.Kinds.{listed}
 use Rattle.commands.specs.Table.{ruleOf, fits, known, allows}
 use Rattle.frames.specs.Aps.{longestAps}
 use Rattle.commands.specs.Reading.{Verdict, refused, sound, judgeKind, judgeListed, judgeHeader, judge}
-use Rattle.commands.specs.Parts.{Part, octetsAt, keyIn, hashIn, keyPlace, hashPlace, restPlace, tlvsIn, innerIn, tlvsPlace, innerPlace, within, valuePlace}
+use Rattle.commands.specs.Parts.{octetsAt, keyIn, hashIn, keyPlace, hashPlace, restPlace, tlvsIn, innerIn, tlvsPlace, innerPlace, within, valuePlace}
 use Rattle.frames.specs.Reading as frames
 use Rattle.tlvs.specs.declared.Walked.the-variants as walks
 
@@ -88,7 +88,7 @@ abbrev pub Sized : List ℕ → Verdict → Type 0
 Sized f (refused n) = 0 ≤ length f
 Sized f (sound k) = 2 + ruleOf k .size ≤ length f
 
-module _ (f : List ℕ) (p : Guard) where
+module _ (f : List ℕ) (p : ProtectionTold) where
   kind-sized : (k : Kind) → Sized f (judgeKind f p k)
   unfolding judgeKind
   kind-sized k =
@@ -112,7 +112,8 @@ module _ (f : List ℕ) (p : Guard) where
   unfolding judge
   judge-sized =
       choose (Sized f) (not (known p)) _ _ (λ _. omega arith)
-      λ _. choose (Sized f) (ltb longestAps (length f)) (refused 2) (judgeHeader f p (readApsCommand f)) (λ _. omega arith) (λ _. header-sized (readApsCommand f))
+      λ _. choose (Sized f) (ltb longestAps (length f)) (refused 2) (judgeHeader f p (readApsCommand f)) (λ _. omega arith)
+      (λ _. header-sized (readApsCommand f))
 
 -- ---- the places
 
@@ -185,7 +186,7 @@ module _ (f : List ℕ) where
 
   -- ---- of a place that was answered for a verdict that is the judgement's
 
-  module _ (p : Guard) (v : Verdict) (q : Place) (e : v ≡ judge f p) where
+  module _ (p : ProtectionTold) (v : Verdict) (q : Place) (e : v ≡ judge f p) where
     pub key-holds : q ≡ keyPlace v → Holds f q
     key-holds g = subst (Holds f) (sym g) (key-at v (subst (Sized f) (sym e) (judge-sized f p)))
 
@@ -200,9 +201,6 @@ module _ (f : List ℕ) where
 
 -- ---- parts
 
-pub same-part : {p q : Part} → p .block ≡ q .block → p .offset ≡ q .offset → p .octets ≡ q .octets → p ≡ q
-same-part {p} {q} a b c = λ i. record { block = a i; offset = b i; octets = c i }
-
 pub upto : (a n : ℕ) → a + n - a ≡ n
 upto a n = omega arith
 
@@ -210,10 +208,12 @@ pub same-place : {p q : Place} → p .from ≡ q .from → p .count ≡ q .count
 same-place {p} {q} a b = λ i. record { from = a i; count = b i }
 
 -- what was found in the TLVs at place q, which are lent as a part
-module _ (f : List ℕ) (tag : ℕ) (q : Place) (x : Walked) (e : x ≡ walked (Tag tag) (take (q .from + q .count - q .from) (drop (q .from) f))) where
+module _ (f : List ℕ) (tag : ℕ) (q : Place) (x : Walked) (e : x ≡ walked (Tag tag)
+    (take (q .from + q .count - q .from) (drop (q .from) f))) where
   pub value-at : (y : Walked) → x ≡ y → within (q .from) y ≡ valuePlace f tag q
   unfolding valuePlace
-  value-at y g = ap (within (q .from)) (sym g ∙ e ∙ ap (λ (n : ℕ). walked (Tag tag) (take n (drop (q .from) f))) (upto (q .from) (q .count)))
+  value-at y g = ap (within (q .from)) (sym g ∙ e ∙ ap (λ (n : ℕ). walked (Tag tag) (take n (drop (q .from) f)))
+      (upto (q .from) (q .count)))
 
   pub found-holds : Holds f q → (i n : ℕ) → x ≡ walks.At i n → q .from + i + n ≤ length f
   found-holds h i n g = subst (Holds f) (sym (value-at (walks.At i n) g)) (value-holds f tag q h)

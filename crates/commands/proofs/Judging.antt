@@ -10,27 +10,27 @@ use lib.ListN.{length, drop}
 use borrow.Author.Tests.{ltb-false, le-ltb, not-false}
 use Rattle.octets.proofs.Choices.{choose}
 use Rattle.octets.specs.Lists.{at}
-use Rattle.answers.specs.declared.Guard.{Guard}
+use Rattle.answers.specs.Numbers.{ProtectionTold}
 use Rattle.frames.specs.Reading.{readApsCommand}
-use Rattle.commands.specs.declared.Command.{Command}
 use Rattle.commands.specs.declared.Kind.{Kind}
 use Rattle.commands.specs.declared.Listed.{Listed}
 use Rattle.commands.specs.declared.Listed.the-variants.{Reserved, Is}
 use Rattle.commands.specs.Kinds.{listed}
 use Rattle.commands.specs.Table.{ruleOf, fits, known, allows}
 use Rattle.frames.specs.Aps.{longestAps}
-use Rattle.commands.specs.Reading.{Verdict, refused, sound, judgeKind, judgeListed, judgeHeader, judge, commandOf, ReadTold, read, unread, answered, readCommand}
+use Rattle.commands.specs.Told.{CommandTold}
+use Rattle.commands.specs.Reading.{Verdict, refused, sound, judgeKind, judgeListed, judgeHeader, judge, commandIn, ReadTold, read, unread, answered, readCommand}
 use Rattle.frames.specs.Reading as frames
 
 -- ---- a frame that is sound
 
 -- what is asked of the frame f under p once it is known to be of kind k
-pub record Meets (f : List ℕ) (p : Guard) (k : Kind) : Type 0 where
+pub record Meets (f : List ℕ) (p : ProtectionTold) (k : Kind) : Type 0 where
   pub sized : 2 + ruleOf k .size ≤ length f
   pub fitting : fits (ruleOf k .rest) (drop (2 + ruleOf k .size) f) ≡ true
   pub allowed : allows (ruleOf k .under) p ≡ true
 
-pub record Sound (f : List ℕ) (p : Guard) (k : Kind) : Type 0 where
+pub record Sound (f : List ℕ) (p : ProtectionTold) (k : Kind) : Type 0 where
   pub protected : known p ≡ true
   pub short : length f ≤ longestAps
   pub listing : listed (at f 2) (at f 3) ≡ Is k
@@ -47,14 +47,17 @@ sound-one : (j k : Kind) → sound j ≡ sound k → j ≡ k
 unfolding kindIn
 sound-one j k e = ap (λ (v : Verdict). kindIn v j) e
 
-module _ (f : List ℕ) (p : Guard) where
+module _ (f : List ℕ) (p : ProtectionTold) where
   kind-told : (j k : Kind) → judgeKind f p j ≡ sound k → (j ≡ k) × Meets f p j
   unfolding judgeKind
   kind-told j k =
       choose (λ (v : Verdict). v ≡ sound k → (j ≡ k) × Meets f p j) (ltb (length f) (2 + ruleOf j .size)) _ _ (λ _ g. refused-sound 11 k g)
-      λ a. choose (λ (v : Verdict). v ≡ sound k → (j ≡ k) × Meets f p j) (not (fits (ruleOf j .rest) (drop (2 + ruleOf j .size) f))) _ _ (λ _ g. refused-sound 11 k g)
-      λ b. choose (λ (v : Verdict). v ≡ sound k → (j ≡ k) × Meets f p j) (not (allows (ruleOf j .under) p)) (refused 12) (sound j) (λ _ g. refused-sound 12 k g)
-      (λ d g. (sound-one j k g, record { sized = ltb-false (length f) (2 + ruleOf j .size) a; fitting = not-false _ b; allowed = not-false _ d }))
+      λ a. choose (λ (v : Verdict). v ≡ sound k → (j ≡ k) × Meets f p j) (not (fits (ruleOf j .rest) (drop (2 + ruleOf j .size) f))) _ _
+      (λ _ g. refused-sound 11 k g)
+      λ b. choose (λ (v : Verdict). v ≡ sound k → (j ≡ k) × Meets f p j) (not (allows (ruleOf j .under) p)) (refused 12) (sound j)
+      (λ _ g. refused-sound 12 k g)
+      (λ d g. let z = ltb-false (length f) (2 + ruleOf j .size) a in
+      (sound-one j k g, record { sized = z; fitting = not-false _ b; allowed = not-false _ d }))
 
   kind-judged : (k : Kind) → Meets f p k → judgeKind f p k ≡ sound k
   unfolding judgeKind
@@ -86,14 +89,14 @@ module _ (f : List ℕ) (p : Guard) where
   judge-sound h k e s = simp (s .protected, le-ltb longestAps (length f) (s .short), e, s .listing) (kind-judged k (s .meets))
 
   -- what was read, was judged sound
-  pub read-told : (c : Command) → readCommand f p ≡ read c → (k : Kind) × (judge f p ≡ sound k) × (c ≡ commandOf f k)
+  pub read-told : (c : CommandTold) → readCommand f p ≡ read c → (k : Kind) × (judge f p ≡ sound k) × (c ≡ commandIn f k)
   unfolding readCommand
   read-told c = go (judge f p)
     where
-      commandIn : ReadTold → Command
-      commandIn (read d) = d
-      commandIn (unread n) = c
+      told : ReadTold → CommandTold
+      told (read d) = d
+      told (unread n) = c
 
-      go : (v : Verdict) → answered f v ≡ read c → (k : Kind) × (v ≡ sound k) × (c ≡ commandOf f k)
+      go : (v : Verdict) → answered f v ≡ read c → (k : Kind) × (v ≡ sound k) × (c ≡ commandIn f k)
       go (refused n) e = let z : _≡_ {A = ℕ} 0 1 = cc in absurd (omega arith)
-      go (sound k) e = (k, refl, sym (ap commandIn e))
+      go (sound k) e = (k, refl, sym (ap told e))

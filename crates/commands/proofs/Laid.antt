@@ -17,13 +17,16 @@ use Rattle.answers.specs.Numbers.{FrameTold, sealed, turnedDown}
 use Rattle.board.specs.declared.Board.{Board}
 use Rattle.board.specs.Sending.{framed}
 use Rattle.commands.specs.declared.Command.{Command}
-use Rattle.commands.specs.declared.Command.the-variants.{Transport1, Transport4, Transport2, Transport3, Update, Remove, Request2, Request4, Switch, Tunnel, Verify, Confirm, Down, Up}
+use Rattle.commands.specs.declared.Command.the-variants.{TransportKey, UpdateDevice, RemoveDevice, RequestKey, SwitchKey, Tunnel, VerifyKey, ConfirmKey, RelayDownstream, RelayUpstream}
 use Rattle.commands.specs.declared.Line.{Line}
 use Rattle.commands.specs.declared.Rule.{Rule}
 use Rattle.commands.specs.Kinds.{kindOf}
 use Rattle.commands.specs.Table.{ruleOf, fits, secretSize}
-use Rattle.commands.specs.Writing.{lined, controlOf, ownOctets, frameOf, whole, counted, writeCommand}
+use Rattle.commands.specs.Writing.{controlOf, ownOctets, frameOf, whole, counted, writeCommand}
+use Rattle.commands.specs.Code.{lined}
 use Rattle.commands.proofs.Bounds.{size-most}
+use Rattle.commands.specs.declared.Transported.the-variants as transports
+use Rattle.commands.specs.declared.Requested.the-variants as requests
 
 -- s laid behind the first n octets of l
 pub line-more : (l m s : List ℕ) (n : ℕ) → m ≡ pasted l n s → n + length s ≤ length l → take (n + length s) m ≡ take n l ++ s
@@ -60,22 +63,23 @@ laid-all o l m z x y s t n c e g j h =
 
 -- ---- a command's own octets
 
-pub own-length : (c : Command) (k : List ℕ) → length k ≡ secretSize (ruleOf (kindOf c) .secret) → length (ownOctets c k) ≡ ruleOf (kindOf c) .size
+pub own-length : (c : Command) (k : List ℕ) → length k ≡ secretSize (ruleOf (kindOf c) .secret)
+    → length (ownOctets c k) ≡ ruleOf (kindOf c) .size
 unfolding ownOctets ruleOf
-own-length (Transport1 q d s) k h = simp length-append (omega (arith, h))
-own-length (Transport4 d s) k h = simp length-append (omega (arith, h))
-own-length (Transport2 a i) k h = simp length-append (omega (arith, h))
-own-length (Transport3 a i) k h = simp length-append (omega (arith, h))
-own-length (Update a s t) k h = refl
-own-length (Remove a) k h = refl
-own-length (Request2 a) k h = refl
-own-length Request4 k h = refl
-own-length (Switch q) k h = refl
+own-length (TransportKey (transports.Network q d s)) k h = simp length-append (omega (arith, h))
+own-length (TransportKey (transports.TrustCentre d s)) k h = simp length-append (omega (arith, h))
+own-length (TransportKey (transports.ApplicationMaster a i)) k h = simp length-append (omega (arith, h))
+own-length (TransportKey (transports.ApplicationLink a i)) k h = simp length-append (omega (arith, h))
+own-length (UpdateDevice a s t) k h = refl
+own-length (RemoveDevice a) k h = refl
+own-length (RequestKey (requests.Application a)) k h = refl
+own-length (RequestKey requests.TrustCentre) k h = refl
+own-length (SwitchKey q) k h = refl
 own-length (Tunnel a) k h = refl
-own-length (Verify t a) k h = simp length-append (omega (arith, h))
-own-length (Confirm s t a) k h = refl
-own-length Down k h = refl
-own-length Up k h = refl
+own-length (VerifyKey t a) k h = simp length-append (omega (arith, h))
+own-length (ConfirmKey s t a) k h = refl
+own-length RelayDownstream k h = refl
+own-length RelayUpstream k h = refl
 
 -- ---- the parts lent
 
@@ -94,7 +98,8 @@ both-parts false q e = let z : _≡_ {A = ℕ} 0 1 = cc in absurd (omega arith)
 
 pub whole-secret : (u : Rule) (k r : List ℕ) → whole u k r ≡ true → length k ≡ secretSize (u .secret)
 unfolding whole
-whole-secret u k r e = eqb-true (length k) (secretSize (u .secret)) (both-parts (eqb (length k) (secretSize (u .secret))) (fits (u .rest) r) e .0)
+whole-secret u k r e = eqb-true (length k) (secretSize (u .secret))
+    (both-parts (eqb (length k) (secretSize (u .secret))) (fits (u .rest) r) e .0)
 
 pub whole-rest : (u : Rule) (k r : List ℕ) → whole u k r ≡ true → fits (u .rest) r ≡ true
 unfolding whole

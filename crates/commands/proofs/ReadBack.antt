@@ -2,8 +2,8 @@
 -- Assumes nothing.
 use mathlib.Core.Path.{_≡_, refl, sym, ap, ap₂, subst, _∙_}
 use mathlib.Core.Bool.{Bool, true, false, not}
-use mathlib.Core.List.{List, _∷_, _++_}
-use Prim.Native.Nat.{ℕ, _+_, _-_, _^_, _≤_, _<_}
+use mathlib.Core.List.{List, [], _∷_, _++_}
+use Prim.Native.Nat.{ℕ, _+_, _-_, _^_, _≤_}
 use native.Mathlib.Nat.{zero-add}
 use native.Mathlib.Omega.{arith}
 use lib.Dec.{eqb, ltb}
@@ -13,10 +13,9 @@ use borrow.Author.Tests.{ltb-true, ltb-false, le-ltb, eqb-true, not-false}
 use Rattle.octets.proofs.Choices.{choose}
 use Rattle.octets.proofs.Numbers.{least-spelled}
 use Rattle.octets.proofs.Tabs.{tab-at}
-use Rattle.octets.specs.Least.{numberAt}
+use Rattle.octets.specs.Least.{leastFirst, numberAt, spelled}
 use Rattle.octets.specs.Lists.{at, tab}
-use Rattle.answers.specs.Numbers.{FrameTold, opened, sealed, turnedDown}
-use Rattle.answers.specs.declared.Guard.{Guard}
+use Rattle.answers.specs.Numbers.{ProtectionTold, clear, under, FrameTold, opened, sealed, turnedDown}
 use Rattle.frames.specs.Aps.{apsType, delivery, ackFormat, apsForm, apsSecured, apsHeader, longestAps}
 use Rattle.frames.specs.Reading.{plain, readApsCommand}
 use Rattle.board.specs.declared.Board.{Board}
@@ -28,7 +27,7 @@ use Rattle.tlvs.specs.Looking.{walked}
 use Rattle.commands.specs.declared.Allowed.{Allowed}
 use Rattle.commands.specs.declared.Allowed.the-variants.{Clear, Only, ClearOr}
 use Rattle.commands.specs.declared.Command.{Command}
-use Rattle.commands.specs.declared.Command.the-variants.{Transport1, Transport4, Transport2, Transport3, Update, Remove, Request2, Request4, Switch, Tunnel, Verify, Confirm, Down, Up}
+use Rattle.commands.specs.declared.Command.the-variants.{TransportKey, UpdateDevice, RemoveDevice, RequestKey, SwitchKey, Tunnel, VerifyKey, ConfirmKey, RelayDownstream, RelayUpstream}
 use Rattle.commands.specs.declared.Kind.{Kind}
 use Rattle.commands.specs.declared.Listed.the-variants.{Is}
 use Rattle.commands.specs.declared.Place.{Place}
@@ -36,25 +35,27 @@ use Rattle.commands.specs.declared.Secret.{Secret}
 use Rattle.commands.specs.declared.Secret.the-variants.{NoSecret, Key, Hash}
 use Rattle.commands.specs.declared.Rest.{Rest}
 use Rattle.commands.specs.declared.Rest.the-variants.{End, Tlvs, Relay, Inner}
-use Rattle.commands.specs.Kinds.{transported, requested, listed, kindOf}
+use Rattle.commands.specs.Kinds.{transportOf, requestOf, listed, kindOf}
 use Rattle.commands.specs.Table.{ruleOf, secretSize, fits, known, allows}
-use Rattle.commands.specs.Reading.{Verdict, sound, judge, commandOf, read, answered, readCommand}
+use Rattle.commands.specs.Told.{untyped, typed, toldCommand}
+use Rattle.commands.specs.Reading.{Verdict, sound, judge, commandIn, read, answered, readCommand}
 use Rattle.commands.specs.Parts.{octetsAt, keyIn, hashIn, keyPlace, hashPlace, restPlace, tlvsIn, innerIn, tlvsPlace, innerPlace, within, valuePlace}
 use Rattle.commands.specs.Writing.{controlOf, ownOctets, frameOf, whole, counted, writeCommand}
 use Rattle.commands.specs.Reverse.{ranged, asKey, asHash, asTlvs, asInner, valueIn, GivesBack}
 use Rattle.commands.proofs.Bounds.{part-rest}
 use Rattle.commands.proofs.Judging.{judge-sound}
 use Rattle.commands.proofs.Laid.{both-parts, own-length, whole-secret, whole-rest}
-use Rattle.answers.specs.declared.Guard.the-variants as guards
 use Rattle.commands.specs.declared.Kind.the-variants as kinds
+use Rattle.commands.specs.declared.Transported.the-variants as transports
+use Rattle.commands.specs.declared.Requested.the-variants as requests
 use Rattle.tlvs.specs.declared.Walked.the-variants as walks
 
 -- ---- a protection that the list allows is one that the reader knows
 
 abbrev Knows : Allowed → Type 0
 Knows Clear = 0 ≤ 0
-Knows (Only n) = known (guards.Under n) ≡ true
-Knows (ClearOr n) = known (guards.Under n) ≡ true
+Knows (Only n) = known (under n) ≡ true
+Knows (ClearOr n) = known (under n) ≡ true
 
 rule-knows : (k : Kind) → Knows (ruleOf k .under)
 unfolding ruleOf known
@@ -73,17 +74,17 @@ rule-knows kinds.Confirm = refl
 rule-knows kinds.Down = refl
 rule-knows kinds.Up = refl
 
-same-known : (n m : ℕ) → known (guards.Under n) ≡ true → eqb m n ≡ true → known (guards.Under m) ≡ true
+same-known : (n m : ℕ) → known (under n) ≡ true → eqb m n ≡ true → known (under m) ≡ true
 same-known n m k e = rw (eqb-true m n e) k
 
-allowed-known : (u : Allowed) (p : Guard) → Knows u → allows u p ≡ true → known p ≡ true
+allowed-known : (u : Allowed) (p : ProtectionTold) → Knows u → allows u p ≡ true → known p ≡ true
 unfolding allows known
-allowed-known Clear guards.Clear k e = refl
-allowed-known Clear (guards.Under m) k e = let z : _≡_ {A = ℕ} 0 1 = cc in absurd (omega arith)
-allowed-known (Only n) guards.Clear k e = let z : _≡_ {A = ℕ} 0 1 = cc in absurd (omega arith)
-allowed-known (Only n) (guards.Under m) k e = same-known n m k e
-allowed-known (ClearOr n) guards.Clear k e = refl
-allowed-known (ClearOr n) (guards.Under m) k e = same-known n m k e
+allowed-known Clear clear k e = refl
+allowed-known Clear (under m) k e = let z : _≡_ {A = ℕ} 0 1 = cc in absurd (omega arith)
+allowed-known (Only n) clear k e = let z : _≡_ {A = ℕ} 0 1 = cc in absurd (omega arith)
+allowed-known (Only n) (under m) k e = same-known n m k e
+allowed-known (ClearOr n) clear k e = refl
+allowed-known (ClearOr n) (under m) k e = same-known n m k e
 
 -- ---- the header
 
@@ -95,26 +96,26 @@ command-header f false e h = simp (le-ltb (length f) 1 (omega arith), e, le-ltb 
 -- ---- identifier and type
 
 listed-own : (c : Command) (k r : List ℕ) → listed (at (ownOctets c k ++ r) 0) (at (ownOctets c k ++ r) 1) ≡ Is (kindOf c)
-unfolding ownOctets listed transported requested
-listed-own (Transport1 q d s) k r = refl
-listed-own (Transport4 d s) k r = refl
-listed-own (Transport2 a i) k r = refl
-listed-own (Transport3 a i) k r = refl
-listed-own (Update a s t) k r = refl
-listed-own (Remove a) k r = refl
-listed-own (Request2 a) k r = refl
-listed-own Request4 k r = refl
-listed-own (Switch q) k r = refl
+unfolding ownOctets listed transportOf requestOf
+listed-own (TransportKey (transports.Network q d s)) k r = refl
+listed-own (TransportKey (transports.TrustCentre d s)) k r = refl
+listed-own (TransportKey (transports.ApplicationMaster a i)) k r = refl
+listed-own (TransportKey (transports.ApplicationLink a i)) k r = refl
+listed-own (UpdateDevice a s t) k r = refl
+listed-own (RemoveDevice a) k r = refl
+listed-own (RequestKey (requests.Application a)) k r = refl
+listed-own (RequestKey requests.TrustCentre) k r = refl
+listed-own (SwitchKey q) k r = refl
 listed-own (Tunnel a) k r = refl
-listed-own (Verify t a) k r = refl
-listed-own (Confirm s t a) k r = refl
-listed-own Down k r = refl
-listed-own Up k r = refl
+listed-own (VerifyKey t a) k r = refl
+listed-own (ConfirmKey s t a) k r = refl
+listed-own RelayDownstream k r = refl
+listed-own RelayUpstream k r = refl
 
 -- ---- the fields
 
-spelled-back : (a : ℕ) → ltb a (2 ^ 64) ≡ true → a < 256 ^ 8
-spelled-back a e = omega (arith, ltb-true a (2 ^ 64) e)
+address-back : (a : ℕ) → ltb a (2 ^ 64) ≡ true → leastFirst (spelled 8 a) ≡ a
+address-back a e = least-spelled 8 a (omega (arith, ltb-true a (2 ^ 64) e))
 
 -- sixteen octets, one by one
 as-tab : (k : List ℕ) → length k ≡ 16 → tab 16 (at k) ≡ k
@@ -127,72 +128,90 @@ SecretIs Key f k = take 16 (drop 4 f) ≡ k
 SecretIs Hash f k = take 16 (drop 12 f) ≡ k
 
 module _ (x n : ℕ) (r : List ℕ) where
-  keyed-own : (c : Command) (z : ℕ → ℕ) → ranged c ≡ true → commandOf (x ∷ n ∷ (ownOctets c (tab 16 z) ++ r)) (kindOf c) ≡ c
-  unfolding ownOctets commandOf numberAt
-  keyed-own (Transport1 q d s) z e =
+  keyed-own : (c : Command) (z : ℕ → ℕ) → ranged c ≡ true → commandIn (x ∷ n ∷ (ownOctets c (tab 16 z) ++ r)) (kindOf c) ≡ toldCommand c
+  unfolding ownOctets commandIn numberAt
+  keyed-own (TransportKey (transports.Network q d s)) z e =
       let b = both-parts (ltb d (2 ^ 64)) (ltb s (2 ^ 64)) e in
-      ap₂ (λ (y w : ℕ). Transport1 q y w) (least-spelled 8 d (spelled-back d (b .0))) (least-spelled 8 s (spelled-back s (b .1)))
-  keyed-own (Transport4 d s) z e =
+      ap₂ (λ (y w : ℕ). typed 0x05 1 (q ∷ y ∷ w ∷ [])) (address-back d (b .0)) (address-back s (b .1))
+  keyed-own (TransportKey (transports.TrustCentre d s)) z e =
       let b = both-parts (ltb d (2 ^ 64)) (ltb s (2 ^ 64)) e in
-      ap₂ (λ (y w : ℕ). Transport4 y w) (least-spelled 8 d (spelled-back d (b .0))) (least-spelled 8 s (spelled-back s (b .1)))
-  keyed-own (Transport2 a i) z e = ap (λ (y : ℕ). Transport2 y i) (least-spelled 8 a (spelled-back a e))
-  keyed-own (Transport3 a i) z e = ap (λ (y : ℕ). Transport3 y i) (least-spelled 8 a (spelled-back a e))
-  keyed-own (Update a s t) z e =
+      ap₂ (λ (y w : ℕ). typed 0x05 4 (y ∷ w ∷ [])) (address-back d (b .0)) (address-back s (b .1))
+  keyed-own (TransportKey (transports.ApplicationMaster a i)) z e = ap (λ (y : ℕ). typed 0x05 2 (y ∷ i ∷ [])) (address-back a e)
+  keyed-own (TransportKey (transports.ApplicationLink a i)) z e = ap (λ (y : ℕ). typed 0x05 3 (y ∷ i ∷ [])) (address-back a e)
+  keyed-own (UpdateDevice a s t) z e =
       let b = both-parts (ltb a (2 ^ 64)) (ltb s (2 ^ 16)) e in
-      ap₂ (λ (y w : ℕ). Update y w t) (least-spelled 8 a (spelled-back a (b .0))) (least-spelled 2 s (omega (arith, ltb-true s (2 ^ 16) (b .1))))
-  keyed-own (Remove a) z e = ap Remove (least-spelled 8 a (spelled-back a e))
-  keyed-own (Request2 a) z e = ap Request2 (least-spelled 8 a (spelled-back a e))
-  keyed-own Request4 z e = refl
-  keyed-own (Switch q) z e = refl
-  keyed-own (Tunnel a) z e = ap Tunnel (least-spelled 8 a (spelled-back a e))
-  keyed-own (Verify t a) z e = ap (Verify t) (least-spelled 8 a (spelled-back a e))
-  keyed-own (Confirm s t a) z e = ap (Confirm s t) (least-spelled 8 a (spelled-back a e))
-  keyed-own Down z e = refl
-  keyed-own Up z e = refl
+      ap₂ (λ (y w : ℕ). untyped 0x06 (y ∷ w ∷ t ∷ [])) (address-back a (b .0))
+      (least-spelled 2 s (omega (arith, ltb-true s (2 ^ 16) (b .1))))
+  keyed-own (RemoveDevice a) z e = ap (λ (y : ℕ). untyped 0x07 (y ∷ [])) (address-back a e)
+  keyed-own (RequestKey (requests.Application a)) z e = ap (λ (y : ℕ). typed 0x08 2 (y ∷ [])) (address-back a e)
+  keyed-own (RequestKey requests.TrustCentre) z e = refl
+  keyed-own (SwitchKey q) z e = refl
+  keyed-own (Tunnel a) z e = ap (λ (y : ℕ). untyped 0x0e (y ∷ [])) (address-back a e)
+  keyed-own (VerifyKey t a) z e = ap (λ (y : ℕ). untyped 0x0f (t ∷ y ∷ [])) (address-back a e)
+  keyed-own (ConfirmKey s t a) z e = ap (λ (y : ℕ). untyped 0x10 (s ∷ t ∷ y ∷ [])) (address-back a e)
+  keyed-own RelayDownstream z e = refl
+  keyed-own RelayUpstream z e = refl
+
+  -- a fact of sixteen octets and the command that has them, from that fact with the sixteen written out
+  with-tab : (c : Command) (k : List ℕ) (P : List ℕ → List ℕ → Type 0) → length k ≡ 16
+      → ((z : ℕ → ℕ) → P (tab 16 z) (ownOctets c (tab 16 z)))
+      → P k (ownOctets c k)
+  with-tab c k P h g = subst (λ (y : List ℕ). P y (ownOctets c y)) (as-tab k h) (g (at k))
+
+  sixteen-at : (c : Command) (k : List ℕ) (i : ℕ) → length k ≡ 16
+      → ((z : ℕ → ℕ) → take 16 (drop i (x ∷ n ∷ (ownOctets c (tab 16 z) ++ r))) ≡ tab 16 z)
+      → take 16 (drop i (x ∷ n ∷ (ownOctets c k ++ r))) ≡ k
+  sixteen-at c k i h g = with-tab c k (λ (y s : List ℕ). take 16 (drop i (x ∷ n ∷ (s ++ r))) ≡ y) h g
 
   -- a fact of a command's own octets follows from that fact with sixteen octets written out; a command without them has
   -- the same own octets whatever is lent
   by-tab : (c : Command) (k : List ℕ) (P : List ℕ → Type 0) → length k ≡ secretSize (ruleOf (kindOf c) .secret)
       → ((z : ℕ → ℕ) → P (ownOctets c (tab 16 z))) → P (ownOctets c k)
   unfolding ownOctets ruleOf
-  by-tab (Transport1 q d s) k P h g = subst (λ (y : List ℕ). P (ownOctets (Transport1 q d s) y)) (as-tab k h) (g (at k))
-  by-tab (Transport4 d s) k P h g = subst (λ (y : List ℕ). P (ownOctets (Transport4 d s) y)) (as-tab k h) (g (at k))
-  by-tab (Transport2 a i) k P h g = subst (λ (y : List ℕ). P (ownOctets (Transport2 a i) y)) (as-tab k h) (g (at k))
-  by-tab (Transport3 a i) k P h g = subst (λ (y : List ℕ). P (ownOctets (Transport3 a i) y)) (as-tab k h) (g (at k))
-  by-tab (Update a s t) k P h g = g (λ _. 0)
-  by-tab (Remove a) k P h g = g (λ _. 0)
-  by-tab (Request2 a) k P h g = g (λ _. 0)
-  by-tab Request4 k P h g = g (λ _. 0)
-  by-tab (Switch q) k P h g = g (λ _. 0)
+  by-tab (TransportKey (transports.Network q d s)) k P h g =
+      with-tab (TransportKey (transports.Network q d s)) k (λ (_ s : List ℕ). P s) h g
+  by-tab (TransportKey (transports.TrustCentre d s)) k P h g =
+      with-tab (TransportKey (transports.TrustCentre d s)) k (λ (_ s : List ℕ). P s) h g
+  by-tab (TransportKey (transports.ApplicationMaster a i)) k P h g =
+      with-tab (TransportKey (transports.ApplicationMaster a i)) k (λ (_ s : List ℕ). P s) h g
+  by-tab (TransportKey (transports.ApplicationLink a i)) k P h g =
+      with-tab (TransportKey (transports.ApplicationLink a i)) k (λ (_ s : List ℕ). P s) h g
+  by-tab (UpdateDevice a s t) k P h g = g (λ _. 0)
+  by-tab (RemoveDevice a) k P h g = g (λ _. 0)
+  by-tab (RequestKey (requests.Application a)) k P h g = g (λ _. 0)
+  by-tab (RequestKey requests.TrustCentre) k P h g = g (λ _. 0)
+  by-tab (SwitchKey q) k P h g = g (λ _. 0)
   by-tab (Tunnel a) k P h g = g (λ _. 0)
-  by-tab (Verify t a) k P h g = subst (λ (y : List ℕ). P (ownOctets (Verify t a) y)) (as-tab k h) (g (at k))
-  by-tab (Confirm s t a) k P h g = g (λ _. 0)
-  by-tab Down k P h g = g (λ _. 0)
-  by-tab Up k P h g = g (λ _. 0)
+  by-tab (VerifyKey t a) k P h g = with-tab (VerifyKey t a) k (λ (_ s : List ℕ). P s) h g
+  by-tab (ConfirmKey s t a) k P h g = g (λ _. 0)
+  by-tab RelayDownstream k P h g = g (λ _. 0)
+  by-tab RelayUpstream k P h g = g (λ _. 0)
 
   fields-own : (c : Command) (k : List ℕ) → length k ≡ secretSize (ruleOf (kindOf c) .secret) → ranged c ≡ true
-      → commandOf (x ∷ n ∷ (ownOctets c k ++ r)) (kindOf c) ≡ c
-  fields-own c k h e = by-tab c k (λ (s : List ℕ). commandOf (x ∷ n ∷ (s ++ r)) (kindOf c) ≡ c) h (λ z. keyed-own c z e)
+      → commandIn (x ∷ n ∷ (ownOctets c k ++ r)) (kindOf c) ≡ toldCommand c
+  fields-own c k h e = by-tab c k (λ (s : List ℕ). commandIn (x ∷ n ∷ (s ++ r)) (kindOf c) ≡ toldCommand c) h (λ z. keyed-own c z e)
 
   -- ---- key and hash
 
   secret-own : (c : Command) (k : List ℕ) → length k ≡ secretSize (ruleOf (kindOf c) .secret)
       → SecretIs (ruleOf (kindOf c) .secret) (x ∷ n ∷ (ownOctets c k ++ r)) k
   unfolding ownOctets ruleOf
-  secret-own (Transport1 q d s) k h = subst (λ (y : List ℕ). take 16 (drop 4 (x ∷ n ∷ (ownOctets (Transport1 q d s) y ++ r))) ≡ y) (as-tab k h) refl
-  secret-own (Transport4 d s) k h = subst (λ (y : List ℕ). take 16 (drop 4 (x ∷ n ∷ (ownOctets (Transport4 d s) y ++ r))) ≡ y) (as-tab k h) refl
-  secret-own (Transport2 a i) k h = subst (λ (y : List ℕ). take 16 (drop 4 (x ∷ n ∷ (ownOctets (Transport2 a i) y ++ r))) ≡ y) (as-tab k h) refl
-  secret-own (Transport3 a i) k h = subst (λ (y : List ℕ). take 16 (drop 4 (x ∷ n ∷ (ownOctets (Transport3 a i) y ++ r))) ≡ y) (as-tab k h) refl
-  secret-own (Update a s t) k h = omega arith
-  secret-own (Remove a) k h = omega arith
-  secret-own (Request2 a) k h = omega arith
-  secret-own Request4 k h = omega arith
-  secret-own (Switch q) k h = omega arith
+  secret-own (TransportKey (transports.Network q d s)) k h = sixteen-at (TransportKey (transports.Network q d s)) k 4 h (λ _. refl)
+  secret-own (TransportKey (transports.TrustCentre d s)) k h = sixteen-at (TransportKey (transports.TrustCentre d s)) k 4 h (λ _. refl)
+  secret-own (TransportKey (transports.ApplicationMaster a i)) k h =
+      sixteen-at (TransportKey (transports.ApplicationMaster a i)) k 4 h (λ _. refl)
+  secret-own (TransportKey (transports.ApplicationLink a i)) k h =
+      sixteen-at (TransportKey (transports.ApplicationLink a i)) k 4 h (λ _. refl)
+  secret-own (UpdateDevice a s t) k h = omega arith
+  secret-own (RemoveDevice a) k h = omega arith
+  secret-own (RequestKey (requests.Application a)) k h = omega arith
+  secret-own (RequestKey requests.TrustCentre) k h = omega arith
+  secret-own (SwitchKey q) k h = omega arith
   secret-own (Tunnel a) k h = omega arith
-  secret-own (Verify t a) k h = subst (λ (y : List ℕ). take 16 (drop 12 (x ∷ n ∷ (ownOctets (Verify t a) y ++ r))) ≡ y) (as-tab k h) refl
-  secret-own (Confirm s t a) k h = omega arith
-  secret-own Down k h = omega arith
-  secret-own Up k h = omega arith
+  secret-own (VerifyKey t a) k h = sixteen-at (VerifyKey t a) k 12 h (λ _. refl)
+  secret-own (ConfirmKey s t a) k h = omega arith
+  secret-own RelayDownstream k h = omega arith
+  secret-own RelayUpstream k h = omega arith
 
 module _ (f k : List ℕ) where
   key-cut : (s : Secret) → SecretIs s f k → octetsAt f (keyIn s) ≡ asKey s k
@@ -251,7 +270,7 @@ value-back f q s tag e =
 
 -- ---- all together
 
-module _ (b : Board) (ack : Bool) (c : Command) (k r : List ℕ) (p : Guard) where
+module _ (b : Board) (ack : Bool) (c : Command) (k r : List ℕ) (p : ProtectionTold) where
   -- a frame of those parts, no longer than the writer allows
   pub frame-back : ranged c ≡ true → whole (ruleOf (kindOf c)) k r ≡ true → length (frameOf b ack c k r) ≤ longestAps
       → allows (ruleOf (kindOf c) .under) p ≡ true → GivesBack (frameOf b ack c k r) p c k r
@@ -260,7 +279,8 @@ module _ (b : Board) (ack : Bool) (c : Command) (k r : List ℕ) (p : Guard) whe
       record {
         command = ap (answered f) judged ∙ ap read (fields-own x n r c k secret e);
         key = ap (λ (v : Verdict). octetsAt f (keyPlace v)) judged ∙ key-cut f k (ruleOf (kindOf c) .secret) (secret-own x n r c k secret);
-        hash = ap (λ (v : Verdict). octetsAt f (hashPlace v)) judged ∙ hash-cut f k (ruleOf (kindOf c) .secret) (secret-own x n r c k secret);
+        hash = ap (λ (v : Verdict). octetsAt f (hashPlace v)) judged
+            ∙ hash-cut f k (ruleOf (kindOf c) .secret) (secret-own x n r c k secret);
         tlvs = tlvs-are;
         inner = ap (λ (v : Verdict). octetsAt f (innerPlace (length f) v)) judged ∙ inner-cut f i r behind (ruleOf (kindOf c) .rest);
         value = λ tag. value-back f (tlvsPlace (length f) (judge f p)) (asTlvs (ruleOf (kindOf c) .rest) r) tag tlvs-are;
@@ -290,6 +310,9 @@ module _ (b : Board) (ack : Bool) (c : Command) (k r : List ℕ) (p : Guard) whe
       long : 2 + ruleOf (kindOf c) .size ≤ length f
       long = omega (arith, own, length-append (ownOctets c k) r)
 
+      fitting : fits (ruleOf (kindOf c) .rest) (drop (2 + ruleOf (kindOf c) .size) f) ≡ true
+      fitting = ap (fits (ruleOf (kindOf c) .rest)) behind ∙ whole-rest (ruleOf (kindOf c)) k r w
+
       judged : judge f p ≡ sound (kindOf c)
       judged =
           judge-sound f p 2 (kindOf c) (command-header f ack refl (omega (arith, long)))
@@ -297,7 +320,7 @@ module _ (b : Board) (ack : Bool) (c : Command) (k r : List ℕ) (p : Guard) whe
             protected = allowed-known (ruleOf (kindOf c) .under) p (rule-knows (kindOf c)) a;
             short = l;
             listing = listed-own c k r;
-            meets = record { sized = long; fitting = ap (fits (ruleOf (kindOf c) .rest)) behind ∙ whole-rest (ruleOf (kindOf c)) k r w; allowed = a };
+            meets = record { sized = long; fitting = fitting; allowed = a };
           })
 
       tlvs-are : octetsAt f (tlvsPlace (length f) (judge f p)) ≡ asTlvs (ruleOf (kindOf c) .rest) r
@@ -330,20 +353,23 @@ module _ (b : Board) (ack : Bool) (c : Command) (k r o : List ℕ) (n : ℕ) (d 
   unfolding writeCommand lengthIn
   written =
       choose (λ (x : Framed). x ≡ framed (sealed n) d m → Written) (ltb (length o) longestAps) _ _ (λ _ e. refused-sealed 1 n b d o m e)
-      λ _. choose (λ (x : Framed). x ≡ framed (sealed n) d m → Written) (not (whole (ruleOf (kindOf c)) k r)) _ _ (λ _ e. refused-sealed 11 n b d o m e)
-      λ w. choose (λ (x : Framed). x ≡ framed (sealed n) d m → Written) (ltb longestAps (length (frameOf b ack c k r))) _ _ (λ _ e. refused-sealed 2 n b d o m e)
+      λ _. choose (λ (x : Framed). x ≡ framed (sealed n) d m → Written) (not (whole (ruleOf (kindOf c)) k r)) _ _
+      (λ _ e. refused-sealed 11 n b d o m e)
+      λ w. choose (λ (x : Framed). x ≡ framed (sealed n) d m → Written) (ltb longestAps (length (frameOf b ack c k r))) _ _
+      (λ _ e. refused-sealed 2 n b d o m e)
       λ l e. let f = frameOf b ack c k r in
       record {
         parts = not-false _ w;
         short = ltb-false longestAps (length f) l;
         raised = sym (ap (λ (x : Framed). x .board) e);
-        frame = ap₂ (λ (i : ℕ) (s : List ℕ). take i s) (sym (ap lengthIn e)) (sym (ap (λ (x : Framed). x .out) e)) ∙ take-at f (drop (length f) o) (length f) refl;
+        frame = ap₂ (λ (i : ℕ) (s : List ℕ). take i s) (sym (ap lengthIn e)) (sym (ap (λ (x : Framed). x .out) e))
+            ∙ take-at f (drop (length f) o) (length f) refl;
       }
 
   -- where the writer answers the length n, the first n octets of the output, read under a protection that the list allows,
   -- give the command and its parts back
   pub read-back : writeCommand b ack c k r o ≡ framed (sealed n) d m → ranged c ≡ true
-      → (p : Guard) → allows (ruleOf (kindOf c) .under) p ≡ true → GivesBack (take n m) p c k r
+      → (p : ProtectionTold) → allows (ruleOf (kindOf c) .under) p ≡ true → GivesBack (take n m) p c k r
   read-back e g p a =
       let w = written e in
       subst (λ (f : List ℕ). GivesBack f p c k r) (sym (w .frame)) (frame-back b ack c k r p g (w .parts) (w .short) a)

@@ -16,8 +16,7 @@ use Rattle.octets.proofs.Tabs.{length-tab, tab-ext, tab-add, tab-at}
 use Rattle.octets.specs.Choice.{both}
 use Rattle.octets.specs.Least.{leastFirst, numberAt, spelled}
 use Rattle.octets.specs.Lists.{at, tab, onto, Octets}
-use Rattle.answers.specs.Numbers.{sealed}
-use Rattle.answers.specs.declared.Guard.{Guard}
+use Rattle.answers.specs.Numbers.{ProtectionTold, sealed}
 use Rattle.board.specs.declared.Board.{Board}
 use Rattle.board.specs.Sending.{framed}
 use Rattle.commands.specs.declared.Command.{Command}
@@ -29,13 +28,15 @@ use Rattle.commands.specs.declared.Secret.{Secret}
 use Rattle.commands.specs.declared.Secret.the-variants.{NoSecret, Key, Hash}
 use Rattle.commands.specs.declared.Rest.{Rest}
 use Rattle.commands.specs.declared.Rest.the-variants.{End, Tlvs, Relay, Inner}
-use Rattle.commands.specs.Kinds.{transported, requested, listed, kindOf}
+use Rattle.commands.specs.Kinds.{transportOf, requestOf, listed, kindOf}
 use Rattle.commands.specs.Table.{ruleOf, secretSize, fits}
 use Rattle.frames.specs.Aps.{longestAps}
-use Rattle.commands.specs.Reading.{Verdict, sound, commandOf, read, readCommand}
+use Rattle.commands.specs.Told.{CommandTold, toldCommand}
+use Rattle.commands.specs.Reading.{Verdict, sound, commandIn, read, readCommand}
 use Rattle.commands.specs.Parts.{octetsAt, keyIn, hashIn, keyPlace, hashPlace, restPlace, tlvsIn, innerIn, tlvsPlace, innerPlace}
-use Rattle.commands.specs.Writing.{controlOf, ownOctets, frameOf, whole, counted, writeCommand}
+use Rattle.commands.specs.Writing.{controlOf, layoutOf, laidOut, ownOctets, frameOf, whole, counted, writeCommand}
 use Rattle.commands.specs.Reverse.{secretRead, restRead}
+use Rattle.commands.proofs.One.{transportBack, requestBack, commandBack, command-back}
 use Rattle.commands.proofs.Bounds.{SecretIn, secret-in, part-rest}
 use Rattle.commands.proofs.Judging.{Sound, judge-told, read-told}
 
@@ -84,27 +85,27 @@ module _ (i t : ℕ) (k : Kind) where
   abbrev Names : Listed → Type 0
   Names l = l ≡ Is k → Named k i t
 
-  transported-named : i ≡ 0x05 → Names (transported t)
-  unfolding transported
-  transported-named a =
+  transport-named : i ≡ 0x05 → Names (transportOf t)
+  unfolding transportOf
+  transport-named a =
       choose Names (eqb t 1) _ _ (λ e. is Transport1 (a, eqb-true t 1 e))
       λ _. choose Names (eqb t 2) _ _ (λ e. is Transport2 (a, eqb-true t 2 e))
       λ _. choose Names (eqb t 3) _ _ (λ e. is Transport3 (a, eqb-true t 3 e))
       λ _. choose Names (eqb t 4) _ _ (λ e. is Transport4 (a, eqb-true t 4 e)) (λ _. none)
 
-  requested-named : i ≡ 0x08 → Names (requested t)
-  unfolding requested
-  requested-named a =
+  request-named : i ≡ 0x08 → Names (requestOf t)
+  unfolding requestOf
+  request-named a =
       choose Names (eqb t 2) _ _ (λ e. is Request2 (a, eqb-true t 2 e))
       λ _. choose Names (eqb t 4) _ _ (λ e. is Request4 (a, eqb-true t 4 e)) (λ _. none)
 
   listed-named : Names (listed i t)
   unfolding listed
   listed-named =
-      choose Names (eqb i 0x05) _ _ (λ e. transported-named (eqb-true i 0x05 e))
+      choose Names (eqb i 0x05) _ _ (λ e. transport-named (eqb-true i 0x05 e))
       λ _. choose Names (eqb i 0x06) _ _ (λ e. is Update (eqb-true i 0x06 e))
       λ _. choose Names (eqb i 0x07) _ _ (λ e. is Remove (eqb-true i 0x07 e))
-      λ _. choose Names (eqb i 0x08) _ _ (λ e. requested-named (eqb-true i 0x08 e))
+      λ _. choose Names (eqb i 0x08) _ _ (λ e. request-named (eqb-true i 0x08 e))
       λ _. choose Names (eqb i 0x09) _ _ (λ e. is Switch (eqb-true i 0x09 e))
       λ _. choose Names (eqb i 0x0e) _ _ (λ e. is Tunnel (eqb-true i 0x0e e))
       λ _. choose Names (eqb i 0x0f) _ _ (λ e. is Verify (eqb-true i 0x0f e))
@@ -112,8 +113,9 @@ module _ (i t : ℕ) (k : Kind) where
       λ _. choose Names (eqb i 0x11) _ _ (λ e. is Down (eqb-true i 0x11 e))
       λ _. choose Names (eqb i 0x12) _ _ (λ e. is Up (eqb-true i 0x12 e)) (λ _. none)
 
-kind-read : (f : List ℕ) (k : Kind) → kindOf (commandOf f k) ≡ k
-unfolding commandOf
+-- the command that tells what a frame of kind k tells is of kind k
+kind-read : (f : List ℕ) (k : Kind) → kindOf (commandBack (commandIn f k)) ≡ k
+unfolding commandIn commandBack transportBack requestBack
 kind-read f Transport1 = refl
 kind-read f Transport4 = refl
 kind-read f Transport2 = refl
@@ -128,6 +130,9 @@ kind-read f Verify = refl
 kind-read f Confirm = refl
 kind-read f Down = refl
 kind-read f Up = refl
+
+same-kind : (c : Command) (f : List ℕ) (k : Kind) → toldCommand c ≡ commandIn f k → kindOf c ≡ k
+same-kind c f k e = ap kindOf (sym (command-back c) ∙ ap commandBack e) ∙ kind-read f k
 
 nil-right : (l : List ℕ) → l ++ [] ≡ l
 nil-right [] = refl
@@ -180,19 +185,23 @@ module _ (f : List ℕ) where
     application : (t : ℕ) → 29 ≤ length f → at f 2 ≡ 5 → at f 3 ≡ t
         → (at f 0 ∷ at f 1 ∷ 5 ∷ t ∷ []) ++ (take 16 (drop 4 f) ++ []) ++ spelled 8 (numberAt 8 f 20) ++ (at f 28 ∷ []) ≡ take 29 f
     application t h m n =
-        ap₂ (λ (k u : List ℕ). (at f 0 ∷ at f 1 ∷ 5 ∷ t ∷ []) ++ (k ++ []) ++ u ++ (at f 28 ∷ [])) (part-tab 4 16 (omega arith)) (number-tab 8 20)
+        ap₂ (λ (k u : List ℕ). (at f 0 ∷ at f 1 ∷ 5 ∷ t ∷ []) ++ (k ++ []) ++ u ++ (at f 28 ∷ [])) (part-tab 4 16 (omega arith))
+        (number-tab 8 20)
         ∙ typed 25 5 t m n h
 
     own-read : (k : Kind) → 2 + ruleOf k .size ≤ length f → Named k (at f 2) (at f 3)
-        → at f 0 ∷ at f 1 ∷ ownOctets (commandOf f k) (secretAt k) ≡ take (2 + ruleOf k .size) f
-    unfolding ownOctets commandOf ruleOf keyIn hashIn
+        → at f 0 ∷ at f 1 ∷ laidOut (secretAt k) (layoutOf k) (commandIn f k) ≡ take (2 + ruleOf k .size) f
+    unfolding commandIn ruleOf keyIn hashIn
     own-read Transport1 h n =
-        ap₂ (λ (u v : List ℕ). (at f 0 ∷ at f 1 ∷ 5 ∷ 1 ∷ []) ++ (take 16 (drop 4 f) ++ []) ++ (at f 20 ∷ []) ++ u ++ v) (number-tab 8 21) (number-tab 8 29)
-        ∙ ap (λ (k : List ℕ). (at f 0 ∷ at f 1 ∷ 5 ∷ 1 ∷ []) ++ (k ++ []) ++ (at f 20 ∷ []) ++ tab 8 (λ j. at f (21 + j)) ++ tab 8 (λ j. at f (29 + j))) (part-tab 4 16 (omega arith))
+        ap₂ (λ (u v : List ℕ). (at f 0 ∷ at f 1 ∷ 5 ∷ 1 ∷ []) ++ (take 16 (drop 4 f) ++ []) ++ (at f 20 ∷ []) ++ u ++ v) (number-tab 8 21)
+        (number-tab 8 29)
+        ∙ ap (λ (k : List ℕ). (at f 0 ∷ at f 1 ∷ 5 ∷ 1 ∷ []) ++ (k ++ []) ++ (at f 20 ∷ []) ++ tab 8 (λ j. at f (21 + j)) ++ tab 8
+        (λ j. at f (29 + j))) (part-tab 4 16 (omega arith))
         ∙ typed 33 5 1 (n .0) (n .1) h
     own-read Transport4 h n =
         ap₂ (λ (u v : List ℕ). (at f 0 ∷ at f 1 ∷ 5 ∷ 4 ∷ []) ++ (take 16 (drop 4 f) ++ []) ++ u ++ v) (number-tab 8 20) (number-tab 8 28)
-        ∙ ap (λ (k : List ℕ). (at f 0 ∷ at f 1 ∷ 5 ∷ 4 ∷ []) ++ (k ++ []) ++ tab 8 (λ j. at f (20 + j)) ++ tab 8 (λ j. at f (28 + j))) (part-tab 4 16 (omega arith))
+        ∙ ap (λ (k : List ℕ). (at f 0 ∷ at f 1 ∷ 5 ∷ 4 ∷ []) ++ (k ++ []) ++ tab 8 (λ j. at f (20 + j)) ++ tab 8 (λ j. at f (28 + j)))
+        (part-tab 4 16 (omega arith))
         ∙ typed 32 5 4 (n .0) (n .1) h
     own-read Transport2 h n = application 2 h (n .0) (n .1)
     own-read Transport3 h n = application 3 h (n .0) (n .1)
@@ -220,7 +229,8 @@ module _ (f : List ℕ) where
     keyed : 20 ≤ length f → length (take 16 (drop 4 f) ++ []) ≡ 16
     keyed h = ap length (nil-right (take 16 (drop 4 f))) ∙ length-take-le 16 (drop 4 f) (rw (length-drop 4 f) (omega arith))
 
-    secret-whole : (s : Secret) (n : ℕ) → SecretIn s n → 2 + n ≤ length f → length (octetsAt f (keyIn s) ++ octetsAt f (hashIn s)) ≡ secretSize s
+    secret-whole : (s : Secret) (n : ℕ) → SecretIn s n → 2 + n ≤ length f
+        → length (octetsAt f (keyIn s) ++ octetsAt f (hashIn s)) ≡ secretSize s
     unfolding keyIn hashIn
     secret-whole NoSecret n e h = refl
     secret-whole Key n e h = keyed (omega arith)
@@ -244,42 +254,50 @@ module _ (b : Board) (ack : Bool) (c : Command) (k r o : List ℕ) (f : List ℕ
   unfolding writeCommand
   writes-frame w e l h = simp (le-ltb (length o) longestAps h, w, e, le-ltb longestAps (length f) l)
 
-module _ (f : List ℕ) (p : Guard) (b : Board) (ack : Bool) (o : List ℕ) where
-  again : (k : Kind) → Octets f → Sound f p k → at f 0 ≡ controlOf ack → at f 1 ≡ b .aps → longestAps ≤ length o
-      → writeCommand b ack (commandOf f k) (octetsAt f (keyPlace (sound k)) ++ octetsAt f (hashPlace (sound k)))
+module _ (f : List ℕ) (p : ProtectionTold) (b : Board) (ack : Bool) (o : List ℕ) where
+  again : (c : Command) (k : Kind) → toldCommand c ≡ commandIn f k → Octets f → Sound f p k → at f 0 ≡ controlOf ack → at f 1 ≡ b .aps
+      → longestAps ≤ length o
+      → writeCommand b ack c (octetsAt f (keyPlace (sound k)) ++ octetsAt f (hashPlace (sound k)))
       (octetsAt f (tlvsPlace (length f) (sound k)) ++ octetsAt f (innerPlace (length f) (sound k))) o
       ≡ framed (sealed (length f)) (counted b) (onto f o)
-  unfolding keyPlace hashPlace tlvsPlace innerPlace frameOf whole
-  again k s m x n h =
-      writes-frame b ack (commandOf f k) (secretAt f s k) rest o f parts frame (m .short) h
+  unfolding keyPlace hashPlace tlvsPlace innerPlace frameOf ownOctets whole
+  again c k e s m x n h =
+      writes-frame b ack c (secretAt f s k) rest o f parts frame (m .short) h
     where
       i : ℕ
       i = 2 + ruleOf k .size
 
       rest : List ℕ
-      rest = octetsAt f (tlvsIn (ruleOf k .rest) (restPlace (length f) (2 + ruleOf k .size))) ++ octetsAt f (innerIn (ruleOf k .rest) (restPlace (length f) (2 + ruleOf k .size)))
+      rest = octetsAt f (tlvsIn (ruleOf k .rest) (restPlace (length f) (2 + ruleOf k .size))) ++ octetsAt f
+          (innerIn (ruleOf k .rest) (restPlace (length f) (2 + ruleOf k .size)))
 
       rest-is : rest ≡ drop (2 + ruleOf k .size) f
       rest-is = rest-whole f s (ruleOf k .rest) (2 + ruleOf k .size) (m .meets .fitting)
 
-      parts : whole (ruleOf (kindOf (commandOf f k))) (secretAt f s k) rest ≡ true
+      kind-is : kindOf c ≡ k
+      kind-is = same-kind c f k e
+
+      parts : whole (ruleOf (kindOf c)) (secretAt f s k) rest ≡ true
       parts =
-          ap (λ (j : Kind). whole (ruleOf j) (secretAt f s k) rest) (kind-read f k)
-          ∙ ap₂ both (eq-eqb (length (secretAt f s k)) (secretSize (ruleOf k .secret)) (secret-whole f s (ruleOf k .secret) (ruleOf k .size) (secret-in k) (m .meets .sized)))
+          ap (λ (j : Kind). whole (ruleOf j) (secretAt f s k) rest) kind-is
+          ∙ ap₂ both (eq-eqb (length (secretAt f s k)) (secretSize (ruleOf k .secret))
+          (secret-whole f s (ruleOf k .secret) (ruleOf k .size) (secret-in k) (m .meets .sized)))
           (ap (fits (ruleOf k .rest)) rest-is ∙ m .meets .fitting)
 
-      frame : controlOf ack ∷ b .aps ∷ (ownOctets (commandOf f k) (secretAt f s k) ++ rest) ≡ f
+      frame : controlOf ack ∷ b .aps ∷ (ownOctets c (secretAt f s k) ++ rest) ≡ f
       frame =
-          ap₂ (λ (y z : ℕ). y ∷ z ∷ (ownOctets (commandOf f k) (secretAt f s k) ++ rest)) (sym x) (sym n)
+          ap₂ (λ (j : Kind) (d : CommandTold). controlOf ack ∷ b .aps ∷ (laidOut (secretAt f s k) (layoutOf j) d ++ rest)) kind-is e
+          ∙ ap₂ (λ (y z : ℕ). y ∷ z ∷ (laidOut (secretAt f s k) (layoutOf k) (commandIn f k) ++ rest)) (sym x) (sym n)
           ∙ ap₂ (λ (y z : List ℕ). y ++ z) (own-read f s k (m .meets .sized) (listed-named (at f 2) (at f 3) k (m .listing))) rest-is
           ∙ take-append-drop (2 + ruleOf k .size) f
 
   -- a frame f of octets that was read as the command c, written again with the parts that it gave
-  pub write-back : (c : Command) → Octets f → readCommand f p ≡ read c → at f 0 ≡ controlOf ack → at f 1 ≡ b .aps → longestAps ≤ length o
+  pub write-back : (c : Command) → Octets f → readCommand f p ≡ read (toldCommand c) → at f 0 ≡ controlOf ack → at f 1 ≡ b .aps
+      → longestAps ≤ length o
       → writeCommand b ack c (secretRead f p) (restRead f p) o ≡ framed (sealed (length f)) (counted b) (onto f o)
   write-back c s e x n h =
-      let t = read-told f p c e in
-      let w = again (t .0) s (judge-told f p (t .0) (t .1)) x n h in
-      ap₂ (λ (d : Command) (v : Verdict). writeCommand b ack d (octetsAt f (keyPlace v) ++ octetsAt f (hashPlace v))
-      (octetsAt f (tlvsPlace (length f) v) ++ octetsAt f (innerPlace (length f) v)) o) (t .2) (t .1)
+      let t = read-told f p (toldCommand c) e in
+      let w = again c (t .0) (t .2) s (judge-told f p (t .0) (t .1)) x n h in
+      ap (λ (v : Verdict). writeCommand b ack c (octetsAt f (keyPlace v) ++ octetsAt f (hashPlace v))
+      (octetsAt f (tlvsPlace (length f) v) ++ octetsAt f (innerPlace (length f) v)) o) (t .1)
       ∙ w

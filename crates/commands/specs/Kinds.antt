@@ -10,10 +10,12 @@ use Rattle.commands.specs.declared.Kind.the-variants.{Transport1, Transp
 use Rattle.commands.specs.declared.Listed.{Listed}
 use Rattle.commands.specs.declared.Listed.the-variants.{Reserved, Is}
 use Rattle.commands.specs.declared.Command.the-variants as commands
+use Rattle.commands.specs.declared.Transported.the-variants as transports
+use Rattle.commands.specs.declared.Requested.the-variants as requests
 
 -- the types of Transport-Key
-unfoldable pub transported : ℕ → Listed
-transported t =
+unfoldable pub transportOf : ℕ → Listed
+transportOf t =
     if eqb t 1 then Is Transport1
     else (if eqb t 2 then Is Transport2
     else (if eqb t 3 then Is Transport3
@@ -21,8 +23,8 @@ transported t =
     else Reserved)))
 
 -- the types of Request-Key
-unfoldable pub requested : ℕ → Listed
-requested t =
+unfoldable pub requestOf : ℕ → Listed
+requestOf t =
     if eqb t 2 then Is Request2
     else (if eqb t 4 then Is Request4
     else Reserved)
@@ -30,10 +32,10 @@ requested t =
 -- an identifier, with the octet behind it, which is the type where there is one
 unfoldable pub listed : ℕ → ℕ → Listed
 listed id t =
-    if eqb id 0x05 then transported t
+    if eqb id 0x05 then transportOf t
     else (if eqb id 0x06 then Is Update
     else (if eqb id 0x07 then Is Remove
-    else (if eqb id 0x08 then requested t
+    else (if eqb id 0x08 then requestOf t
     else (if eqb id 0x09 then Is Switch
     else (if eqb id 0x0e then Is Tunnel
     else (if eqb id 0x0f then Is Verify
@@ -42,18 +44,19 @@ listed id t =
     else (if eqb id 0x12 then Is Up
     else Reserved)))))))))
 
+-- the row of the list that a command is of
 abbrev pub kindOf : Command → Kind
-kindOf (commands.Transport1 q d s) = Transport1
-kindOf (commands.Transport4 d s) = Transport4
-kindOf (commands.Transport2 a i) = Transport2
-kindOf (commands.Transport3 a i) = Transport3
-kindOf (commands.Update a s t) = Update
-kindOf (commands.Remove a) = Remove
-kindOf (commands.Request2 a) = Request2
-kindOf commands.Request4 = Request4
-kindOf (commands.Switch q) = Switch
+kindOf (commands.TransportKey (transports.Network q d s)) = Transport1
+kindOf (commands.TransportKey (transports.TrustCentre d s)) = Transport4
+kindOf (commands.TransportKey (transports.ApplicationMaster a i)) = Transport2
+kindOf (commands.TransportKey (transports.ApplicationLink a i)) = Transport3
+kindOf (commands.UpdateDevice a s t) = Update
+kindOf (commands.RemoveDevice a) = Remove
+kindOf (commands.RequestKey (requests.Application a)) = Request2
+kindOf (commands.RequestKey requests.TrustCentre) = Request4
+kindOf (commands.SwitchKey q) = Switch
 kindOf (commands.Tunnel a) = Tunnel
-kindOf (commands.Verify t a) = Verify
-kindOf (commands.Confirm s t a) = Confirm
-kindOf commands.Down = Down
-kindOf commands.Up = Up
+kindOf (commands.VerifyKey t a) = Verify
+kindOf (commands.ConfirmKey s t a) = Confirm
+kindOf commands.RelayDownstream = Down
+kindOf commands.RelayUpstream = Up

@@ -4,7 +4,7 @@
 use mathlib.Core.List.{List}
 use Prim.Native.Nat.{ℕ, _+_, _-_}
 use denote.Ref.{RefT}
-use lib.ListN.{take, drop}
+use Rattle.octets.specs.Parts.{Part, octetsFrom, cut}
 use Rattle.tlvs.specs.declared.Walked.{Walked}
 use Rattle.tlvs.specs.declared.Wanted.the-variants.{Tag}
 use Rattle.tlvs.specs.Looking.{walked}
@@ -17,23 +17,13 @@ use Rattle.commands.specs.Table.{ruleOf, secretSize}
 use Rattle.commands.specs.Reading.{Verdict, refused, sound}
 use Rattle.tlvs.specs.declared.Walked.the-variants as walks
 
--- ---- a part of what was lent
-
--- the memory that was lent, where in it the part starts, and its octets
-pub record Part : Type 0 where
-  pub block : ℕ
-  pub offset : ℕ
-  pub octets : List ℕ
-
-abbrev pub seen : RefT (List ℕ) → Part
-seen r = record { block = r .ptr .0; offset = r .ptr .1; octets = r .now }
+-- ---- a part of the frame
 
 abbrev pub octetsAt : List ℕ → Place → List ℕ
-octetsAt s p = take (p .count) (drop (p .from) s)
+octetsAt s p = octetsFrom s (p .from) (p .count)
 
--- that part of the frame f
-abbrev pub cut : RefT (List ℕ) → Place → Part
-cut f p = record { block = f .ptr .0; offset = f .ptr .1 + p .from; octets = octetsAt (f .now) p }
+abbrev pub cutAt : RefT (List ℕ) → Place → Part
+cutAt f p = cut f (p .from) (p .count)
 
 -- ---- the places
 

@@ -4,43 +4,36 @@
 -- with its fields." The places of the fields are those of source document 000, 4.4.11, behind a header of 2 octets.
 -- Assumes nothing.
 use mathlib.Core.Bool.{not}
-use mathlib.Core.List.{List}
+use mathlib.Core.List.{List, [], _∷_}
 use Prim.Native.Nat.{ℕ, _+_}
 use lib.Dec.{ltb}
 use lib.ListN.{length, drop}
 use Rattle.octets.specs.Choice.{if_then_else_}
 use Rattle.octets.specs.Lists.{at}
 use Rattle.octets.specs.Least.{numberAt}
-use Rattle.answers.specs.declared.Guard.{Guard}
-use Rattle.answers.specs.Numbers.{numberOf}
+use Rattle.answers.specs.Numbers.{numberOf, ProtectionTold}
 use Rattle.frames.specs.Aps.{longestAps}
 use Rattle.frames.specs.Reading.{readApsCommand}
-use Rattle.commands.specs.declared.Command.{Command}
 use Rattle.commands.specs.declared.Kind.{Kind}
 use Rattle.commands.specs.declared.Kind.the-variants.{Transport1, Transport4, Transport2, Transport3, Update, Remove, Request2, Request4, Switch, Tunnel, Verify, Confirm, Down, Up}
 use Rattle.commands.specs.declared.Listed.{Listed}
 use Rattle.commands.specs.declared.Listed.the-variants.{Reserved, Is}
-use Rattle.commands.specs.declared.Judged.{Judged}
 use Rattle.commands.specs.declared.Reading.{Reading}
 use Rattle.commands.specs.Kinds.{listed}
 use Rattle.commands.specs.Table.{ruleOf, fits, known, allows}
+use Rattle.commands.specs.Told.{CommandTold, untyped, typed, toldCommand}
 use Rattle.frames.specs.Reading as frames
-use Rattle.commands.specs.declared.Command.the-variants as commands
-use Rattle.commands.specs.declared.Judged.the-variants as judged
 use Rattle.commands.specs.declared.Reading.the-variants as readings
 
 -- ---- the judgement
 
+-- a refusal's number, or the row of the list that the frame is of
 pub data Verdict : Type 0 where
   refused : ℕ → Verdict
   sound : Kind → Verdict
 
-abbrev pub toldJudged : Judged → Verdict
-toldJudged (judged.Refused r) = refused (numberOf r)
-toldJudged (judged.Sound k) = sound k
-
 -- 11 for the size and what follows, then 12
-unfoldable pub judgeKind : List ℕ → Guard → Kind → Verdict
+unfoldable pub judgeKind : List ℕ → ProtectionTold → Kind → Verdict
 judgeKind f p k =
     if ltb (length f) (2 + ruleOf k .size) then refused 11
     else (if not (fits (ruleOf k .rest) (drop (2 + ruleOf k .size) f)) then refused 11
@@ -48,18 +41,18 @@ judgeKind f p k =
     else sound k))
 
 -- 11 for identifier and type
-unfoldable pub judgeListed : List ℕ → Guard → Listed → Verdict
+unfoldable pub judgeListed : List ℕ → ProtectionTold → Listed → Verdict
 judgeListed f p Reserved = refused 11
 judgeListed f p (Is k) = judgeKind f p k
 
 -- 3, 4, 3, 4 for the header, which a command has of 2 octets; what is past the end reads as 0, which is reserved
-unfoldable pub judgeHeader : List ℕ → Guard → frames.Reading → Verdict
+unfoldable pub judgeHeader : List ℕ → ProtectionTold → frames.Reading → Verdict
 judgeHeader f p (frames.refused n) = refused n
 judgeHeader f p (frames.plain h) = judgeListed f p (listed (at f 2) (at f 3))
 judgeHeader f p (frames.secured s) = refused 4
 
 -- 14, 2
-unfoldable pub judge : List ℕ → Guard → Verdict
+unfoldable pub judge : List ℕ → ProtectionTold → Verdict
 judge f p =
     if not (known p) then refused 14
     else (if ltb longestAps (length f) then refused 2
@@ -67,36 +60,37 @@ judge f p =
 
 -- ---- the fields
 
-unfoldable pub commandOf : List ℕ → Kind → Command
-commandOf f Transport1 = commands.Transport1 (at f 20) (numberAt 8 f 21) (numberAt 8 f 29)
-commandOf f Transport4 = commands.Transport4 (numberAt 8 f 20) (numberAt 8 f 28)
-commandOf f Transport2 = commands.Transport2 (numberAt 8 f 20) (at f 28)
-commandOf f Transport3 = commands.Transport3 (numberAt 8 f 20) (at f 28)
-commandOf f Update = commands.Update (numberAt 8 f 3) (numberAt 2 f 11) (at f 13)
-commandOf f Remove = commands.Remove (numberAt 8 f 3)
-commandOf f Request2 = commands.Request2 (numberAt 8 f 4)
-commandOf f Request4 = commands.Request4
-commandOf f Switch = commands.Switch (at f 3)
-commandOf f Tunnel = commands.Tunnel (numberAt 8 f 3)
-commandOf f Verify = commands.Verify (at f 3) (numberAt 8 f 4)
-commandOf f Confirm = commands.Confirm (at f 3) (at f 4) (numberAt 8 f 5)
-commandOf f Down = commands.Down
-commandOf f Up = commands.Up
+-- what a frame of that kind tells
+unfoldable pub commandIn : List ℕ → Kind → CommandTold
+commandIn f Transport1 = typed 0x05 1 (at f 20 ∷ numberAt 8 f 21 ∷ numberAt 8 f 29 ∷ [])
+commandIn f Transport4 = typed 0x05 4 (numberAt 8 f 20 ∷ numberAt 8 f 28 ∷ [])
+commandIn f Transport2 = typed 0x05 2 (numberAt 8 f 20 ∷ at f 28 ∷ [])
+commandIn f Transport3 = typed 0x05 3 (numberAt 8 f 20 ∷ at f 28 ∷ [])
+commandIn f Update = untyped 0x06 (numberAt 8 f 3 ∷ numberAt 2 f 11 ∷ at f 13 ∷ [])
+commandIn f Remove = untyped 0x07 (numberAt 8 f 3 ∷ [])
+commandIn f Request2 = typed 0x08 2 (numberAt 8 f 4 ∷ [])
+commandIn f Request4 = typed 0x08 4 []
+commandIn f Switch = untyped 0x09 (at f 3 ∷ [])
+commandIn f Tunnel = untyped 0x0e (numberAt 8 f 3 ∷ [])
+commandIn f Verify = untyped 0x0f (at f 3 ∷ numberAt 8 f 4 ∷ [])
+commandIn f Confirm = untyped 0x10 (at f 3 ∷ at f 4 ∷ numberAt 8 f 5 ∷ [])
+commandIn f Down = untyped 0x11 []
+commandIn f Up = untyped 0x12 []
 
 -- ---- the answer
 
--- what the reader tells: the command, or a refusal's number
+-- what the reader tells: the command in numbers, or a refusal's number
 pub data ReadTold : Type 0 where
-  read : Command → ReadTold
+  read : CommandTold → ReadTold
   unread : ℕ → ReadTold
 
 abbrev pub toldReading : Reading → ReadTold
-toldReading (readings.Command c) = read c
+toldReading (readings.Command c) = read (toldCommand c)
 toldReading (readings.Refused r) = unread (numberOf r)
 
 abbrev pub answered : List ℕ → Verdict → ReadTold
 answered f (refused n) = unread n
-answered f (sound k) = read (commandOf f k)
+answered f (sound k) = read (commandIn f k)
 
-unfoldable pub readCommand : List ℕ → Guard → ReadTold
+unfoldable pub readCommand : List ℕ → ProtectionTold → ReadTold
 readCommand f p = answered f (judge f p)

@@ -8,19 +8,22 @@ use Prim.Native.Nat.{ℕ, _^_}
 use lib.Dec.{ltb}
 use lib.ListN.{length}
 use Rattle.octets.specs.Choice.{both}
-use Rattle.answers.specs.declared.Guard.{Guard}
+use Rattle.answers.specs.Numbers.{ProtectionTold}
 use Rattle.tlvs.specs.declared.Wanted.the-variants.{Tag}
 use Rattle.tlvs.specs.Looking.{walked}
 use Rattle.commands.specs.declared.Command.{Command}
-use Rattle.commands.specs.declared.Command.the-variants.{Transport1, Transport4, Transport2, Transport3, Update, Remove, Request2, Request4, Switch, Tunnel, Verify, Confirm, Down, Up}
+use Rattle.commands.specs.declared.Command.the-variants.{TransportKey, UpdateDevice, RemoveDevice, RequestKey, SwitchKey, Tunnel, VerifyKey, ConfirmKey, RelayDownstream, RelayUpstream}
 use Rattle.commands.specs.declared.Secret.{Secret}
 use Rattle.commands.specs.declared.Secret.the-variants.{NoSecret, Key, Hash}
 use Rattle.commands.specs.declared.Rest.{Rest}
 use Rattle.commands.specs.declared.Rest.the-variants.{End, Tlvs, Relay, Inner}
 use Rattle.commands.specs.Kinds.{kindOf}
 use Rattle.commands.specs.Table.{ruleOf}
+use Rattle.commands.specs.Told.{toldCommand}
 use Rattle.commands.specs.Reading.{read, judge, readCommand}
 use Rattle.commands.specs.Parts.{octetsAt, keyPlace, hashPlace, tlvsPlace, innerPlace, within, valuePlace}
+use Rattle.commands.specs.declared.Transported.the-variants as transports
+use Rattle.commands.specs.declared.Requested.the-variants as requests
 
 -- ---- read what was written
 
@@ -33,20 +36,20 @@ short a = ltb a (2 ^ 16)
 
 -- a command whose addresses have their size; the other numbers are octets
 abbrev pub ranged : Command → Bool
-ranged (Transport1 q d s) = both (long d) (long s)
-ranged (Transport4 d s) = both (long d) (long s)
-ranged (Transport2 a i) = long a
-ranged (Transport3 a i) = long a
-ranged (Update a s t) = both (long a) (short s)
-ranged (Remove a) = long a
-ranged (Request2 a) = long a
-ranged Request4 = true
-ranged (Switch q) = true
+ranged (TransportKey (transports.Network q d s)) = both (long d) (long s)
+ranged (TransportKey (transports.TrustCentre d s)) = both (long d) (long s)
+ranged (TransportKey (transports.ApplicationMaster a i)) = long a
+ranged (TransportKey (transports.ApplicationLink a i)) = long a
+ranged (UpdateDevice a s t) = both (long a) (short s)
+ranged (RemoveDevice a) = long a
+ranged (RequestKey (requests.Application a)) = long a
+ranged (RequestKey requests.TrustCentre) = true
+ranged (SwitchKey q) = true
 ranged (Tunnel a) = long a
-ranged (Verify t a) = long a
-ranged (Confirm s t a) = long a
-ranged Down = true
-ranged Up = true
+ranged (VerifyKey t a) = long a
+ranged (ConfirmKey s t a) = long a
+ranged RelayDownstream = true
+ranged RelayUpstream = true
 
 -- what was lent as a key, as a hash, as TLVs, as an inner frame
 abbrev pub asKey : Secret → List ℕ → List ℕ
@@ -76,19 +79,20 @@ abbrev pub valueIn : List ℕ → ℕ → List ℕ
 valueIn s tag = octetsAt s (within 0 (walked (Tag tag) s))
 
 -- the frame f, read under p, gives the command c and the parts k and r with which it was written
-pub record GivesBack (f : List ℕ) (p : Guard) (c : Command) (k r : List ℕ) : Type 0 where
-  pub command : readCommand f p ≡ read c
+pub record GivesBack (f : List ℕ) (p : ProtectionTold) (c : Command) (k r : List ℕ) : Type 0 where
+  pub command : readCommand f p ≡ read (toldCommand c)
   pub key : octetsAt f (keyPlace (judge f p)) ≡ asKey (ruleOf (kindOf c) .secret) k
   pub hash : octetsAt f (hashPlace (judge f p)) ≡ asHash (ruleOf (kindOf c) .secret) k
   pub tlvs : octetsAt f (tlvsPlace (length f) (judge f p)) ≡ asTlvs (ruleOf (kindOf c) .rest) r
   pub inner : octetsAt f (innerPlace (length f) (judge f p)) ≡ asInner (ruleOf (kindOf c) .rest) r
-  pub value : (tag : ℕ) → octetsAt f (valuePlace f tag (tlvsPlace (length f) (judge f p))) ≡ valueIn (asTlvs (ruleOf (kindOf c) .rest) r) tag
+  pub value : (tag : ℕ) → octetsAt f (valuePlace f tag (tlvsPlace (length f) (judge f p)))
+      ≡ valueIn (asTlvs (ruleOf (kindOf c) .rest) r) tag
 
 -- ---- write what was read
 
 -- the key or the hash, and the TLVs or the inner frame, that f gives under p; a command has one of each pair at most
-abbrev pub secretRead : List ℕ → Guard → List ℕ
+abbrev pub secretRead : List ℕ → ProtectionTold → List ℕ
 secretRead f p = octetsAt f (keyPlace (judge f p)) ++ octetsAt f (hashPlace (judge f p))
 
-abbrev pub restRead : List ℕ → Guard → List ℕ
+abbrev pub restRead : List ℕ → ProtectionTold → List ℕ
 restRead f p = octetsAt f (tlvsPlace (length f) (judge f p)) ++ octetsAt f (innerPlace (length f) (judge f p))

@@ -7,7 +7,7 @@ use Prim.Native.Nat.{ℕ, _+_}
 use lib.Dec.{eqb, leb}
 use lib.ListN.{length}
 use Rattle.octets.specs.Choice.{if_then_else_}
-use Rattle.answers.specs.declared.Guard.{Guard}
+use Rattle.answers.specs.Numbers.{ProtectionTold, clear, under}
 use Rattle.frames.specs.Security.{tagOctets}
 use Rattle.tlvs.specs.Looking.{fills, relays}
 use Rattle.commands.specs.declared.Kind.{Kind}
@@ -19,7 +19,6 @@ use Rattle.commands.specs.declared.Rest.the-variants.{End, Tlvs, Relay, 
 use Rattle.commands.specs.declared.Allowed.{Allowed}
 use Rattle.commands.specs.declared.Allowed.the-variants.{Clear, Only, ClearOr}
 use Rattle.commands.specs.declared.Rule.{Rule}
-use Rattle.answers.specs.declared.Guard.the-variants as guards
 
 abbrev pub row : ℕ → Secret → Rest → Allowed → Rule
 row n s r u = record { size = n; secret = s; rest = r; under = u }
@@ -67,14 +66,14 @@ secretSize Hash = 16
 -- ---- the protection
 
 -- "none, 0, 2 or 3"
-unfoldable pub known : Guard → Bool
-known guards.Clear = true
-known (guards.Under n) = if eqb n 0 then true else (if eqb n 2 then true else eqb n 3)
+unfoldable pub known : ProtectionTold → Bool
+known clear = true
+known (under n) = if eqb n 0 then true else (if eqb n 2 then true else eqb n 3)
 
-unfoldable pub allows : Allowed → Guard → Bool
-allows Clear guards.Clear = true
-allows Clear (guards.Under m) = false
-allows (Only n) guards.Clear = false
-allows (Only n) (guards.Under m) = eqb m n
-allows (ClearOr n) guards.Clear = true
-allows (ClearOr n) (guards.Under m) = eqb m n
+unfoldable pub allows : Allowed → ProtectionTold → Bool
+allows Clear clear = true
+allows Clear (under m) = false
+allows (Only n) clear = false
+allows (Only n) (under m) = eqb m n
+allows (ClearOr n) clear = true
+allows (ClearOr n) (under m) = eqb m n

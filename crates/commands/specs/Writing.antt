@@ -6,7 +6,7 @@ use mathlib.Core.Bool.{Bool, true, false, not}
 use mathlib.Core.List.{List, [], _∷_, _++_}
 use Prim.Native.Nat.{ℕ, _+_, _%_}
 use lib.Dec.{eqb, ltb}
-use lib.ListN.{length, take}
+use lib.ListN.{length}
 use Rattle.octets.specs.Choice.{if_then_else_, both}
 use Rattle.octets.specs.Lists.{onto}
 use Rattle.octets.specs.Least.{spelled}
@@ -14,11 +14,12 @@ use Rattle.answers.specs.Numbers.{sealed, turnedDown}
 use Rattle.board.specs.declared.Board.{Board}
 use Rattle.board.specs.Sending.{Framed, framed}
 use Rattle.commands.specs.declared.Command.{Command}
-use Rattle.commands.specs.declared.Command.the-variants.{Transport1, Transport4, Transport2, Transport3, Update, Remove, Request2, Request4, Switch, Tunnel, Verify, Confirm, Down, Up}
+use Rattle.commands.specs.declared.Kind.{Kind}
+use Rattle.commands.specs.declared.Kind.the-variants.{Transport1, Transport4, Transport2, Transport3, Update, Remove, Request2, Request4, Switch, Tunnel, Verify, Confirm, Down, Up}
 use Rattle.commands.specs.declared.Rule.{Rule}
-use Rattle.commands.specs.declared.Line.{Line}
 use Rattle.commands.specs.Kinds.{kindOf}
 use Rattle.commands.specs.Table.{ruleOf, fits, secretSize}
+use Rattle.commands.specs.Told.{CommandTold, untyped, typed, toldCommand}
 use Rattle.frames.specs.Aps.{longestAps}
 
 -- ---- the frame
@@ -27,22 +28,45 @@ abbrev pub controlOf : Bool → ℕ
 controlOf true = 0x41
 controlOf false = 0x01
 
+-- a field of a command: the sixteen octets of key or hash, an octet, or a number of that many octets
+pub data Field : Type 0 where
+  sixteen : Field
+  octet : Field
+  number : ℕ → Field
+
+-- the fields behind the identifier, or behind the type where there is one
+abbrev pub layoutOf : Kind → List Field
+layoutOf Transport1 = sixteen ∷ octet ∷ number 8 ∷ number 8 ∷ []
+layoutOf Transport4 = sixteen ∷ number 8 ∷ number 8 ∷ []
+layoutOf Transport2 = sixteen ∷ number 8 ∷ octet ∷ []
+layoutOf Transport3 = sixteen ∷ number 8 ∷ octet ∷ []
+layoutOf Update = number 8 ∷ number 2 ∷ octet ∷ []
+layoutOf Remove = number 8 ∷ []
+layoutOf Request2 = number 8 ∷ []
+layoutOf Request4 = []
+layoutOf Switch = octet ∷ []
+layoutOf Tunnel = number 8 ∷ []
+layoutOf Verify = octet ∷ number 8 ∷ sixteen ∷ []
+layoutOf Confirm = octet ∷ octet ∷ number 8 ∷ []
+layoutOf Down = []
+layoutOf Up = []
+
+-- behind the octets s the fields, of which the sixteen are k and the others the numbers in order
+abbrev pub laid : List ℕ → List ℕ → List Field → List ℕ → List ℕ
+laid k s [] xs = s
+laid k s (sixteen ∷ fs) xs = laid k (s ++ k) fs xs
+laid k s (octet ∷ fs) [] = s
+laid k s (octet ∷ fs) (x ∷ xs) = laid k (s ++ (x ∷ [])) fs xs
+laid k s (number n ∷ fs) [] = s
+laid k s (number n ∷ fs) (x ∷ xs) = laid k (s ++ spelled n x) fs xs
+
+abbrev pub laidOut : List ℕ → List Field → CommandTold → List ℕ
+laidOut k fs (untyped i xs) = laid k (i ∷ []) fs xs
+laidOut k fs (typed i t xs) = laid k (i ∷ t ∷ []) fs xs
+
 -- a command up to what follows, with its key or hash k
 unfoldable pub ownOctets : Command → List ℕ → List ℕ
-ownOctets (Transport1 q d s) k = (0x05 ∷ 1 ∷ []) ++ k ++ (q ∷ []) ++ spelled 8 d ++ spelled 8 s
-ownOctets (Transport4 d s) k = (0x05 ∷ 4 ∷ []) ++ k ++ spelled 8 d ++ spelled 8 s
-ownOctets (Transport2 a i) k = (0x05 ∷ 2 ∷ []) ++ k ++ spelled 8 a ++ (i ∷ [])
-ownOctets (Transport3 a i) k = (0x05 ∷ 3 ∷ []) ++ k ++ spelled 8 a ++ (i ∷ [])
-ownOctets (Update a s t) k = (0x06 ∷ []) ++ spelled 8 a ++ spelled 2 s ++ (t ∷ [])
-ownOctets (Remove a) k = (0x07 ∷ []) ++ spelled 8 a
-ownOctets (Request2 a) k = (0x08 ∷ 2 ∷ []) ++ spelled 8 a
-ownOctets Request4 k = 0x08 ∷ 4 ∷ []
-ownOctets (Switch q) k = 0x09 ∷ q ∷ []
-ownOctets (Tunnel a) k = (0x0e ∷ []) ++ spelled 8 a
-ownOctets (Verify t a) k = (0x0f ∷ t ∷ []) ++ spelled 8 a ++ k
-ownOctets (Confirm s t a) k = (0x10 ∷ s ∷ t ∷ []) ++ spelled 8 a
-ownOctets Down k = 0x11 ∷ []
-ownOctets Up k = 0x12 ∷ []
+ownOctets c k = laidOut k (layoutOf (kindOf c)) (toldCommand c)
 
 -- control, counter and the command, with what follows
 unfoldable pub frameOf : Board → Bool → Command → List ℕ → List ℕ → List ℕ
@@ -75,9 +99,3 @@ writeCommand b ack c k r o =
     else (if not (whole (ruleOf (kindOf c)) k r) then framed (turnedDown 11) b o
     else (if ltb longestAps (length (frameOf b ack c k r)) then framed (turnedDown 2) b o
     else framed (sealed (length (frameOf b ack c k r))) (counted b) (onto (frameOf b ack c k r) o)))
-
--- ---- of the code
-
--- the octets of a line
-unfoldable pub lined : Line → List ℕ
-lined l = take (l .count) (l .octets)

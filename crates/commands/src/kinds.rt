@@ -2,11 +2,13 @@
 use crate::Command;
 use crate::Kind;
 use crate::Listed;
+use crate::Requested;
+use crate::Transported;
 ghost use mathlib.Core.Path.{_≡_};
-ghost use Rattle.commands.specs.Kinds.{transported, requested, listed, kindOf};
+ghost use Rattle.commands.specs.Kinds.{transportOf, requestOf, listed, kindOf};
 
 fn transport_of(sort: u8) -> Listed
-    ensures { λ r. ⌜ r ≡ transported sort ⌝ }
+    ensures { λ r. ⌜ r ≡ transportOf sort ⌝ }
 {
     match sort {
         0 => Listed::Reserved,
@@ -19,7 +21,7 @@ fn transport_of(sort: u8) -> Listed
 }
 
 fn request_of(sort: u8) -> Listed
-    ensures { λ r. ⌜ r ≡ requested sort ⌝ }
+    ensures { λ r. ⌜ r ≡ requestOf sort ⌝ }
 {
     match sort {
         0..=1 => Listed::Reserved,
@@ -55,19 +57,23 @@ pub(crate) fn kind_of(c: Command) -> Kind
     ensures { λ r. ⌜ r ≡ kindOf c ⌝ }
 {
     match c {
-        Command::Transport1(_, _, _) => Kind::Transport1,
-        Command::Transport4(_, _) => Kind::Transport4,
-        Command::Transport2(_, _) => Kind::Transport2,
-        Command::Transport3(_, _) => Kind::Transport3,
-        Command::Update(_, _, _) => Kind::Update,
-        Command::Remove(_) => Kind::Remove,
-        Command::Request2(_) => Kind::Request2,
-        Command::Request4 => Kind::Request4,
-        Command::Switch(_) => Kind::Switch,
+        Command::TransportKey(t) => match t {
+            Transported::Network(_, _, _) => Kind::Transport1,
+            Transported::TrustCentre(_, _) => Kind::Transport4,
+            Transported::ApplicationMaster(_, _) => Kind::Transport2,
+            Transported::ApplicationLink(_, _) => Kind::Transport3,
+        },
+        Command::UpdateDevice(_, _, _) => Kind::Update,
+        Command::RemoveDevice(_) => Kind::Remove,
+        Command::RequestKey(t) => match t {
+            Requested::Application(_) => Kind::Request2,
+            Requested::TrustCentre => Kind::Request4,
+        },
+        Command::SwitchKey(_) => Kind::Switch,
         Command::Tunnel(_) => Kind::Tunnel,
-        Command::Verify(_, _) => Kind::Verify,
-        Command::Confirm(_, _, _) => Kind::Confirm,
-        Command::Down => Kind::Down,
-        Command::Up => Kind::Up,
+        Command::VerifyKey(_, _) => Kind::Verify,
+        Command::ConfirmKey(_, _, _) => Kind::Confirm,
+        Command::RelayDownstream => Kind::Down,
+        Command::RelayUpstream => Kind::Up,
     }
 }

@@ -18,30 +18,40 @@ pub use writer::write_command;
 // A command with its numbers, in the order in which they stand in the frame. Keys, hashes, inner
 // frames and TLVs are asked for alone.
 pub enum Command {
-    // sequence number, destination, source
-    Transport1(u8, u64, u64),
-    // destination, source
-    Transport4(u64, u64),
-    // partner, initiator flag
-    Transport2(u64, u8),
-    Transport3(u64, u8),
+    TransportKey(Transported),
     // device, short address, status
-    Update(u64, u16, u8),
+    UpdateDevice(u64, u16, u8),
     // target
-    Remove(u64),
-    // partner
-    Request2(u64),
-    Request4,
+    RemoveDevice(u64),
+    RequestKey(Requested),
     // sequence number
-    Switch(u8),
+    SwitchKey(u8),
     // destination
     Tunnel(u64),
     // type, source
-    Verify(u8, u64),
+    VerifyKey(u8, u64),
     // status, type, destination
-    Confirm(u8, u8, u64),
-    Down,
-    Up,
+    ConfirmKey(u8, u8, u64),
+    RelayDownstream,
+    RelayUpstream,
+}
+
+// The key that a Transport-Key carries; types 2 and 3 have one layout.
+pub enum Transported {
+    // sequence number, destination, source
+    Network(u8, u64, u64),
+    // destination, source
+    TrustCentre(u64, u64),
+    // partner, initiator flag
+    ApplicationMaster(u64, u8),
+    ApplicationLink(u64, u8),
+}
+
+// The key that a Request-Key asks for.
+pub enum Requested {
+    // partner
+    Application(u64),
+    TrustCentre,
 }
 
 // What the reader answers.
@@ -51,7 +61,7 @@ pub enum Reading {
 }
 
 // A command without its numbers: a row of 01's list, by identifier and inner type.
-pub enum Kind {
+pub(crate) enum Kind {
     Transport1,
     Transport4,
     Transport2,
@@ -74,14 +84,14 @@ enum Listed {
 }
 
 // The sixteen octets that a command may have.
-pub enum Secret {
+pub(crate) enum Secret {
     NoSecret,
     Key,
     Hash,
 }
 
 // What follows a command's own octets.
-pub enum Rest {
+pub(crate) enum Rest {
     End,
     Tlvs,
     Relay,
@@ -89,14 +99,14 @@ pub enum Rest {
 }
 
 // A protection that the list allows.
-pub enum Allowed {
+pub(crate) enum Allowed {
     Clear,
     Only(u8),
     ClearOr(u8),
 }
 
 // A row of 01's list; size counts from the identifier to where the rest starts.
-pub struct Rule {
+pub(crate) struct Rule {
     pub size: usize,
     pub secret: Secret,
     pub rest: Rest,
@@ -110,7 +120,7 @@ enum Judged {
 }
 
 // A part of a frame.
-pub struct Place {
+pub(crate) struct Place {
     pub from: usize,
     pub count: usize,
 }

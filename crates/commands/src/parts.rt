@@ -11,8 +11,11 @@ use tlvs::Walked;
 ghost use mathlib.Core.Path.{_≡_};
 ghost use Prim.Native.Nat.{_+_, _≤_};
 ghost use lib.ListN.{length};
-ghost use Rattle.commands.specs.Reading.{toldJudged, judge};
-ghost use Rattle.commands.specs.Parts.{seen, cut, keyIn, hashIn, keyPlace, hashPlace, restPlace, tlvsIn, innerIn, tlvsPlace, innerPlace, valuePlace};
+ghost use Rattle.octets.specs.Parts.{seen};
+ghost use Rattle.answers.specs.Numbers.{protectionOf};
+ghost use Rattle.commands.specs.Reading.{judge};
+ghost use Rattle.commands.specs.Code.{toldJudged};
+ghost use Rattle.commands.specs.Parts.{cutAt, keyIn, hashIn, keyPlace, hashPlace, restPlace, tlvsIn, innerIn, tlvsPlace, innerPlace, valuePlace};
 ghost use Rattle.commands.specs.Parts.{nowhere as Parts·nowhere};
 
 fn nowhere() -> Place
@@ -23,7 +26,7 @@ fn nowhere() -> Place
 
 fn part_of(f: &[u8], place: Place) -> &[u8]
     requires { ⌜ place .from + place .count ≤ length (now f) ⌝ }
-    ensures { λ r. ⌜ seen r ≡ cut (f .entry) place ⌝ }
+    ensures { λ r. ⌜ seen r ≡ cutAt (f .entry) place ⌝ }
 {
     let a = place.from;
     let e = a + place.count;
@@ -159,35 +162,35 @@ fn value_place(f: &[u8], tag: u8, place: Place) -> Place
 
 // The key of a Transport-Key.
 pub fn key_of(f: &[u8], p: Guard) -> &[u8]
-    ensures { λ r. ⌜ seen r ≡ cut (f .entry) (keyPlace (judge (now (f .entry)) p)) ⌝ }
+    ensures { λ r. ⌜ seen r ≡ cutAt (f .entry) (keyPlace (judge (now (f .entry)) (protectionOf p))) ⌝ }
 {
     part_of(f, key_place(reader::judge_frame(f, p)))
 }
 
 // The hash of a Verify-Key.
 pub fn hash_of(f: &[u8], p: Guard) -> &[u8]
-    ensures { λ r. ⌜ seen r ≡ cut (f .entry) (hashPlace (judge (now (f .entry)) p)) ⌝ }
+    ensures { λ r. ⌜ seen r ≡ cutAt (f .entry) (hashPlace (judge (now (f .entry)) (protectionOf p))) ⌝ }
 {
     part_of(f, hash_place(reader::judge_frame(f, p)))
 }
 
 // The frame inside a Tunnel.
 pub fn inner_of(f: &[u8], p: Guard) -> &[u8]
-    ensures { λ r. ⌜ seen r ≡ cut (f .entry) (innerPlace (length (now (f .entry))) (judge (now (f .entry)) p)) ⌝ }
+    ensures { λ r. ⌜ seen r ≡ cutAt (f .entry) (innerPlace (length (now (f .entry))) (judge (now (f .entry)) (protectionOf p))) ⌝ }
 {
     part_of(f, inner_place(f.len(), reader::judge_frame(f, p)))
 }
 
 // All TLVs of a command.
 pub fn tlvs_of(f: &[u8], p: Guard) -> &[u8]
-    ensures { λ r. ⌜ seen r ≡ cut (f .entry) (tlvsPlace (length (now (f .entry))) (judge (now (f .entry)) p)) ⌝ }
+    ensures { λ r. ⌜ seen r ≡ cutAt (f .entry) (tlvsPlace (length (now (f .entry))) (judge (now (f .entry)) (protectionOf p))) ⌝ }
 {
     part_of(f, tlvs_place(f.len(), reader::judge_frame(f, p)))
 }
 
 // The value of the first TLV of that tag.
 pub fn value_of(f: &[u8], p: Guard, tag: u8) -> &[u8]
-    ensures { λ r. ⌜ seen r ≡ cut (f .entry) (valuePlace (now (f .entry)) tag (tlvsPlace (length (now (f .entry))) (judge (now (f .entry)) p))) ⌝ }
+    ensures { λ r. ⌜ seen r ≡ cutAt (f .entry) (valuePlace (now (f .entry)) tag (tlvsPlace (length (now (f .entry))) (judge (now (f .entry)) (protectionOf p)))) ⌝ }
 {
     part_of(
         f,

@@ -4,19 +4,26 @@ use crate::Judged;
 use crate::Kind;
 use crate::Listed;
 use crate::Reading;
+use crate::Requested;
+use crate::Transported;
 use crate::kinds;
 use crate::table;
 use answers::Guard;
 use answers::Refusal;
 use frames::Read;
 ghost use mathlib.Core.Path.{_≡_};
-ghost use Rattle.commands.specs.Reading.{toldJudged, judgeKind, judgeListed, judge, commandOf, toldReading, readCommand};
+ghost use Rattle.answers.specs.Numbers.{protectionOf};
+ghost use Rattle.commands.specs.Told.{toldCommand};
+ghost use Rattle.commands.specs.Reading.{judgeKind, judgeListed, judge, commandIn, toldReading, readCommand};
+ghost use Rattle.commands.specs.Code.{toldJudged};
 ghost use Rattle.commands.specs.Kinds.{listed};
 ghost use Rattle.octets.specs.Lists.{at};
+ghost use Rattle.octets.specs.Least.{numberAt};
+ghost use Rattle.commands.specs.declared.Transported.{Transported};
 
 // 11 and 12 of a kind that the list has.
 fn judge_kind(f: &[u8], p: Guard, k: Kind) -> Judged
-    ensures { λ r. ⌜ toldJudged r ≡ judgeKind (now (f .entry)) p k ⌝ }
+    ensures { λ r. ⌜ toldJudged r ≡ judgeKind (now (f .entry)) (protectionOf p) k ⌝ }
 {
     let rule = table::rule_of(k);
     let end = 2 + rule.size;
@@ -36,7 +43,7 @@ fn judge_kind(f: &[u8], p: Guard, k: Kind) -> Judged
 
 // The identifier; a frame that ends before it, or before its type, has 0 there, which is reserved.
 fn judge_listed(f: &[u8], p: Guard) -> Judged
-    ensures { λ r. ⌜ toldJudged r ≡ judgeListed (now (f .entry)) p (listed (at (now (f .entry)) 2) (at (now (f .entry)) 3)) ⌝ }
+    ensures { λ r. ⌜ toldJudged r ≡ judgeListed (now (f .entry)) (protectionOf p) (listed (at (now (f .entry)) 2) (at (now (f .entry)) 3)) ⌝ }
 {
     match kinds::find_kind(octets::octet(f, 2), octets::octet(f, 3)) {
         Listed::Reserved => Judged::Refused(Refusal::Command),
@@ -45,7 +52,7 @@ fn judge_listed(f: &[u8], p: Guard) -> Judged
 }
 
 pub(crate) fn judge_frame(f: &[u8], p: Guard) -> Judged
-    ensures { λ r. ⌜ toldJudged r ≡ judge (now (f .entry)) p ⌝ }
+    ensures { λ r. ⌜ toldJudged r ≡ judge (now (f .entry)) (protectionOf p) ⌝ }
 {
     if !table::is_known(p) {
         return Judged::Refused(Refusal::Argument);
@@ -60,43 +67,58 @@ pub(crate) fn judge_frame(f: &[u8], p: Guard) -> Judged
     }
 }
 
-// The numbers of a command of that kind; 0 for what f does not have.
+fn network_key(f: &[u8]) -> Transported
+    ensures { λ r. ⌜ r ≡ Transported.Network (at (now (f .entry)) 20) (numberAt 8 (now (f .entry)) 21) (numberAt 8 (now (f .entry)) 29) ⌝ }
+{
+    Transported::Network(
+        octets::octet(f, 20),
+        octets::number8(f, 21),
+        octets::number8(f, 29),
+    )
+}
+
+// The command of that kind, with its numbers; 0 for what f does not have.
 fn fields_of(f: &[u8], k: Kind) -> Command
-    ensures { λ r. ⌜ r ≡ commandOf (now (f .entry)) k ⌝ }
+    ensures { λ r. ⌜ toldCommand r ≡ commandIn (now (f .entry)) k ⌝ }
 {
     match k {
-        Kind::Transport1 => Command::Transport1(
-            octets::octet(f, 20),
-            octets::number8(f, 21),
-            octets::number8(f, 29),
-        ),
-        Kind::Transport4 => Command::Transport4(octets::number8(f, 20), octets::number8(f, 28)),
-        Kind::Transport2 => Command::Transport2(octets::number8(f, 20), octets::octet(f, 28)),
-        Kind::Transport3 => Command::Transport3(octets::number8(f, 20), octets::octet(f, 28)),
-        Kind::Update => Command::Update(
+        Kind::Transport1 => Command::TransportKey(network_key(f)),
+        Kind::Transport4 => Command::TransportKey(Transported::TrustCentre(
+            octets::number8(f, 20),
+            octets::number8(f, 28),
+        )),
+        Kind::Transport2 => Command::TransportKey(Transported::ApplicationMaster(
+            octets::number8(f, 20),
+            octets::octet(f, 28),
+        )),
+        Kind::Transport3 => Command::TransportKey(Transported::ApplicationLink(
+            octets::number8(f, 20),
+            octets::octet(f, 28),
+        )),
+        Kind::Update => Command::UpdateDevice(
             octets::number8(f, 3),
             octets::number2(f, 11),
             octets::octet(f, 13),
         ),
-        Kind::Remove => Command::Remove(octets::number8(f, 3)),
-        Kind::Request2 => Command::Request2(octets::number8(f, 4)),
-        Kind::Request4 => Command::Request4,
-        Kind::Switch => Command::Switch(octets::octet(f, 3)),
+        Kind::Remove => Command::RemoveDevice(octets::number8(f, 3)),
+        Kind::Request2 => Command::RequestKey(Requested::Application(octets::number8(f, 4))),
+        Kind::Request4 => Command::RequestKey(Requested::TrustCentre),
+        Kind::Switch => Command::SwitchKey(octets::octet(f, 3)),
         Kind::Tunnel => Command::Tunnel(octets::number8(f, 3)),
-        Kind::Verify => Command::Verify(octets::octet(f, 3), octets::number8(f, 4)),
-        Kind::Confirm => Command::Confirm(
+        Kind::Verify => Command::VerifyKey(octets::octet(f, 3), octets::number8(f, 4)),
+        Kind::Confirm => Command::ConfirmKey(
             octets::octet(f, 3),
             octets::octet(f, 4),
             octets::number8(f, 5),
         ),
-        Kind::Down => Command::Down,
-        Kind::Up => Command::Up,
+        Kind::Down => Command::RelayDownstream,
+        Kind::Up => Command::RelayUpstream,
     }
 }
 
 // Reads the command of a plain APS frame that came under protection p.
 pub fn read_command(f: &[u8], p: Guard) -> Reading
-    ensures { λ r. ⌜ toldReading r ≡ readCommand (now (f .entry)) p ⌝ }
+    ensures { λ r. ⌜ toldReading r ≡ readCommand (now (f .entry)) (protectionOf p) ⌝ }
 {
     match judge_frame(f, p) {
         Judged::Refused(r) => Reading::Refused(r),

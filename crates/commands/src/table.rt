@@ -6,6 +6,7 @@ use crate::Rule;
 use crate::Secret;
 use answers::Guard;
 ghost use mathlib.Core.Path.{_≡_};
+ghost use Rattle.answers.specs.Numbers.{protectionOf};
 ghost use Rattle.commands.specs.Table.{ruleOf, known, allows, fits, secretSize};
 ghost use Rattle.commands.specs.Table.{row as Table·row};
 
@@ -42,7 +43,7 @@ pub(crate) fn rule_of(k: Kind) -> Rule
 }
 
 pub(crate) fn is_known(p: Guard) -> bool
-    ensures { λ r. ⌜ r ≡ known p ⌝ }
+    ensures { λ r. ⌜ r ≡ known (protectionOf p) ⌝ }
 {
     match p {
         Guard::Clear => true,
@@ -57,7 +58,7 @@ pub(crate) fn is_known(p: Guard) -> bool
 }
 
 pub(crate) fn is_allowed(u: Allowed, p: Guard) -> bool
-    ensures { λ r. ⌜ r ≡ allows u p ⌝ }
+    ensures { λ r. ⌜ r ≡ allows u (protectionOf p) ⌝ }
 {
     match u {
         Allowed::Clear => match p {

@@ -1,7 +1,9 @@
 // The writer.
 use crate::Command;
 use crate::Line;
+use crate::Requested;
 use crate::Rule;
+use crate::Transported;
 use crate::kinds;
 use crate::table;
 use answers::Refusal;
@@ -18,7 +20,8 @@ ghost use Rattle.answers.specs.Numbers.{toldSealed, turnedDown, numberOf};
 ghost use Rattle.board.specs.Sending.{framed};
 ghost use Rattle.commands.specs.Table.{ruleOf, secretSize};
 ghost use Rattle.commands.specs.Kinds.{kindOf};
-ghost use Rattle.commands.specs.Writing.{lined, controlOf, ownOctets, whole, writeCommand};
+ghost use Rattle.commands.specs.Writing.{controlOf, ownOctets, whole, writeCommand};
+ghost use Rattle.commands.specs.Code.{lined};
 ghost use Rattle.commands.specs.Writing.{counted as Writing·counted};
 
 // ---- octets one behind another
@@ -98,23 +101,36 @@ fn own_octets(c: Command, secret: &[u8]) -> Line
     ensures { λ r. ⌜ (r .count ≡ ruleOf (kindOf c) .size) × (length (r .octets) ≡ 35) × (lined r ≡ ownOctets c (now (secret .entry))) ⌝ }
 {
     match c {
-        Command::Transport1(q, d, s) => with_address(
-            with_address(with_octet(with_key(1, secret), q), d),
-            s,
+        Command::TransportKey(key) => match key {
+            Transported::Network(q, d, s) => with_address(
+                with_address(with_octet(with_key(1, secret), q), d),
+                s,
+            ),
+            Transported::TrustCentre(d, s) => with_address(with_address(with_key(4, secret), d), s),
+            Transported::ApplicationMaster(a, i) => with_octet(
+                with_address(with_key(2, secret), a),
+                i,
+            ),
+            Transported::ApplicationLink(a, i) => with_octet(
+                with_address(with_key(3, secret), a),
+                i,
+            ),
+        },
+        Command::UpdateDevice(a, s, t) => with_octet(
+            with_short(with_address(led_by(0x06), a), s),
+            t,
         ),
-        Command::Transport4(d, s) => with_address(with_address(with_key(4, secret), d), s),
-        Command::Transport2(a, i) => with_octet(with_address(with_key(2, secret), a), i),
-        Command::Transport3(a, i) => with_octet(with_address(with_key(3, secret), a), i),
-        Command::Update(a, s, t) => with_octet(with_short(with_address(led_by(0x06), a), s), t),
-        Command::Remove(a) => with_address(led_by(0x07), a),
-        Command::Request2(a) => with_address(with_octet(led_by(0x08), 2), a),
-        Command::Request4 => with_octet(led_by(0x08), 4),
-        Command::Switch(q) => with_octet(led_by(0x09), q),
+        Command::RemoveDevice(a) => with_address(led_by(0x07), a),
+        Command::RequestKey(key) => match key {
+            Requested::Application(a) => with_address(with_octet(led_by(0x08), 2), a),
+            Requested::TrustCentre => with_octet(led_by(0x08), 4),
+        },
+        Command::SwitchKey(q) => with_octet(led_by(0x09), q),
         Command::Tunnel(a) => with_address(led_by(0x0e), a),
-        Command::Verify(t, a) => with_part(with_address(with_octet(led_by(0x0f), t), a), secret),
-        Command::Confirm(s, t, a) => with_address(with_octet(with_octet(led_by(0x10), s), t), a),
-        Command::Down => led_by(0x11),
-        Command::Up => led_by(0x12),
+        Command::VerifyKey(t, a) => with_part(with_address(with_octet(led_by(0x0f), t), a), secret),
+        Command::ConfirmKey(s, t, a) => with_address(with_octet(with_octet(led_by(0x10), s), t), a),
+        Command::RelayDownstream => led_by(0x11),
+        Command::RelayUpstream => led_by(0x12),
     }
 }
 

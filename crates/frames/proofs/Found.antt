@@ -18,9 +18,9 @@ use Rattle.frames.specs.declared.Layer.the-variants.{Network, Aps}
 use Rattle.frames.specs.Security.{tagOctets, identifierOf, extendedOf, auxLength, senderOf}
 use Rattle.frames.specs.Network.{networkBase, networkHeader, networkKeyed}
 use Rattle.frames.specs.Aps.{apsType, delivery, ackFormat, apsHeader, apsKeyed}
-use Rattle.frames.specs.Reading.{Reading, refused, plain, secured, announced, readSecured, readPlain}
+use Rattle.frames.specs.Reading.{Reading, refused, plain, secured, announced, suits, readSecured, readPlain}
 use Rattle.frames.proofs.Controls.{extended-most, aux-numbered, aux-unnumbered}
-use Rattle.frames.proofs.Layers.{leastHeader, controlOf, headerOf, suits, givenTo, reading, readingPlain, opening, sealing, shortIn, formIn, bitIn, headerIn, keyedIn, reading-is, readingPlain-is}
+use Rattle.frames.proofs.Layers.{leastHeader, controlOf, headerOf, givenTo, reading, readingPlain, opening, sealing, shortIn, formIn, bitIn, headerIn, reading-is, readingPlain-is}
 use Rattle.octets.specs.Addresses.{noAddress}
 
 refused-secured : {A : Type 0} (n : ℕ) (s : Secured) → refused n ≡ secured s → A
@@ -66,31 +66,31 @@ header-least Aps f c =
 
 -- ---- behind a header of h octets
 
-module _ (t : Bool) (f : List ℕ) (h a : ℕ) where
+module _ (l : Layer) (f : List ℕ) (h a : ℕ) where
   record Behind (s : Secured) : Type 0 where
-    pub suited : t ≡ true
+    pub suited : suits l (at f h) ≡ true
     pub whole : h + auxLength (at f h) + tagOctets ≤ length f
     pub someone : noAddress (senderOf f h a) ≡ false
     pub fields : s ≡ announced f h a
 
   -- what holds of each way out holds of reading
   ways : (P : Reading → Type 0) → P (refused 3) → P (refused 5)
-      → (t ≡ true → h + auxLength (at f h) + tagOctets ≤ length f → noAddress (senderOf f h a) ≡ false → P (secured (announced f h a)))
-      → P (readSecured t f h a)
+      → (suits l (at f h) ≡ true → h + auxLength (at f h) + tagOctets ≤ length f → noAddress (senderOf f h a) ≡ false → P (secured (announced f h a)))
+      → P (readSecured l f h a)
   unfolding readSecured
   ways P p q r =
       choose P (leb (length f) h) _ _ (λ _. p)
-      λ _. choose P (not t) _ _ (λ _. q)
+      λ _. choose P (not (suits l (at f h))) _ _ (λ _. q)
       λ x. choose P (ltb (length f) (h + auxLength (at f h) + tagOctets)) _ _ (λ _. p)
       λ y. choose P (noAddress (senderOf f h a)) _ _ (λ _. q)
-      λ z. r (not-false t x) (ltb-false _ _ y) z
+      λ z. r (not-false _ x) (ltb-false _ _ y) z
 
-  behind : (s : Secured) → readSecured t f h a ≡ secured s → Behind s
+  behind : (s : Secured) → readSecured l f h a ≡ secured s → Behind s
   behind s =
       ways (λ r. r ≡ secured s → Behind s) (refused-secured 3 s) (refused-secured 5 s)
       (λ x y z e. record { suited = x; whole = y; someone = z; fields = cc })
 
-  secured-not : (n : ℕ) → readSecured t f h a ≡ plain n → ⊥
+  secured-not : (n : ℕ) → readSecured l f h a ≡ plain n → ⊥
   secured-not n =
       ways (λ r. r ≡ plain n → ⊥) (refused-plain 3 n) (refused-plain 5 n)
       (λ _ _ _ e. plain-secured n (announced f h a) (sym e))
@@ -131,7 +131,7 @@ pub secured-frame : (l : Layer) (f : List ℕ) (a : ℕ) (s : Secured) → readi
 unfolding announced
 secured-frame l f a s e = go (shortIn l f) (formIn l f) (bitIn l f) refl refl (sym (reading-is l f a) ∙ e)
   where
-    made : formIn l f ≡ true → bitIn l f ≡ true → Behind (keyedIn l f) f (headerIn l f) (givenTo l a) s
+    made : formIn l f ≡ true → bitIn l f ≡ true → Behind l f (headerIn l f) (givenTo l a) s
         → SecuredFrame l f a (announced f (headerIn l f) (givenTo l a))
     made x y b =
         record {
@@ -146,12 +146,12 @@ secured-frame l f a s e = go (shortIn l f) (formIn l f) (bitIn l f) refl refl (s
           fields = refl;
         }
 
-    go : (p q u : Bool) → formIn l f ≡ q → bitIn l f ≡ u → opening p q u (keyedIn l f) f (headerIn l f) (givenTo l a) ≡ secured s
+    go : (p q u : Bool) → formIn l f ≡ q → bitIn l f ≡ u → opening p q u l f (headerIn l f) (givenTo l a) ≡ secured s
         → SecuredFrame l f a s
     go true q u x y e = refused-secured 3 s e
     go false false u x y e = refused-secured 4 s e
     go false true true x y e =
-        let b = behind (keyedIn l f) f (headerIn l f) (givenTo l a) s e in
+        let b = behind l f (headerIn l f) (givenTo l a) s e in
         subst (SecuredFrame l f a) (sym (b .fields)) (made x y b)
     go false true false x y e = absurd (plain-not f (headerIn l f) s e)
 
@@ -170,11 +170,11 @@ module _ (l : Layer) (f : List ℕ) (h : ℕ) where
   pub plain-frame : (a : ℕ) → reading l f a ≡ plain h → PlainFrame l f h
   plain-frame a e = go (shortIn l f) (formIn l f) (bitIn l f) refl refl (sym (reading-is l f a) ∙ e)
     where
-      go : (p q u : Bool) → formIn l f ≡ q → bitIn l f ≡ u → opening p q u (keyedIn l f) f (headerIn l f) (givenTo l a) ≡ plain h
+      go : (p q u : Bool) → formIn l f ≡ q → bitIn l f ≡ u → opening p q u l f (headerIn l f) (givenTo l a) ≡ plain h
           → PlainFrame l f h
       go true q u x y e = refused-plain 3 h e
       go false false u x y e = refused-plain 4 h e
-      go false true true x y e = absurd (secured-not (keyedIn l f) f (headerIn l f) (givenTo l a) h e)
+      go false true true x y e = absurd (secured-not l f (headerIn l f) (givenTo l a) h e)
       go false true false x y e = unsecured x y e
 
   -- as sealing reads it

@@ -11,9 +11,8 @@ use Rattle.octets.specs.Choice.{if_then_else_, both}
 use Rattle.octets.specs.Lists.{at}
 use Rattle.frames.specs.declared.Layer.{Layer}
 use Rattle.frames.specs.declared.Layer.the-variants.{Network, Aps}
-use Rattle.frames.specs.Security.{identifierOf, extendedOf}
-use Rattle.frames.specs.Network.{networkControl, networkForm, networkSecured, networkHeader, networkKeyed}
-use Rattle.frames.specs.Aps.{apsForm, apsSecured, apsHeader, apsKeyed}
+use Rattle.frames.specs.Network.{networkControl, networkForm, networkSecured, networkHeader}
+use Rattle.frames.specs.Aps.{apsForm, apsSecured, apsHeader}
 use Rattle.frames.specs.Reading.{Reading, refused, readSecured, readPlain, readNetwork, readAps, readNetworkPlain, readApsPlain}
 
 -- the octets of the control field, and the least header
@@ -41,11 +40,6 @@ abbrev pub headerOf : Layer → List ℕ → ℕ → ℕ
 headerOf Network f c = networkHeader f c
 headerOf Aps f c = apsHeader c
 
--- whether a security control has the layer's key identifier and nonce bit
-abbrev pub suits : Layer → ℕ → Bool
-suits Network x = networkKeyed (identifierOf x) (extendedOf x)
-suits Aps x = apsKeyed (identifierOf x)
-
 -- the caller's sender address, which only the APS layer looks at
 abbrev pub givenTo : Layer → ℕ → ℕ
 givenTo Network a = 0
@@ -61,11 +55,11 @@ readingPlain Aps f = readApsPlain f
 
 -- ---- each way of reading, of what its tests answer
 
-abbrev pub opening : Bool → Bool → Bool → Bool → List ℕ → ℕ → ℕ → Reading
-opening short form bit keyed f h a =
+abbrev pub opening : Bool → Bool → Bool → Layer → List ℕ → ℕ → ℕ → Reading
+opening short form bit l f h a =
     if short then refused 3
     else (if not form then refused 4
-    else (if bit then readSecured keyed f h a else readPlain f h))
+    else (if bit then readSecured l f h a else readPlain f h))
 
 abbrev pub sealing : Bool → Bool → Bool → List ℕ → ℕ → Reading
 sealing short form bit f h = if short then refused 3 else (if both form (not bit) then readPlain f h else refused 4)
@@ -83,11 +77,8 @@ module _ (l : Layer) (f : List ℕ) where
   abbrev pub headerIn : ℕ
   headerIn = headerOf l f (controlOf l f)
 
-  abbrev pub keyedIn : Bool
-  keyedIn = suits l (at f headerIn)
-
 pub reading-is : (l : Layer) (f : List ℕ) (a : ℕ)
-    → reading l f a ≡ opening (shortIn l f) (formIn l f) (bitIn l f) (keyedIn l f) f (headerIn l f) (givenTo l a)
+    → reading l f a ≡ opening (shortIn l f) (formIn l f) (bitIn l f) l f (headerIn l f) (givenTo l a)
 unfolding readNetwork readAps
 reading-is Network f a = refl
 reading-is Aps f a = refl

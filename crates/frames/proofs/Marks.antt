@@ -21,7 +21,7 @@ use Rattle.frames.specs.Network.{networkControl, networkForm, networkSec
 use Rattle.frames.specs.Aps.{apsType, delivery, ackFormat, apsForm, apsSecured, apsHeader}
 use Rattle.frames.specs.Making.{bitPlace, bitValue, cleared, raised, plainHeader, securedHeader}
 use Rattle.frames.specs.Reading.{readSecured}
-use Rattle.frames.proofs.Layers.{controlOctets, leastHeader, controlOf, formOf, securedBit, headerOf, suits, givenTo, headerIn, reading, opening, reading-is}
+use Rattle.frames.proofs.Layers.{controlOctets, leastHeader, controlOf, formOf, securedBit, headerOf, givenTo, headerIn, reading, opening, reading-is}
 use Rattle.frames.proofs.Found.{PlainFrame}
 
 -- the bit's value in the control field
@@ -133,7 +133,7 @@ module _ (l : Layer) (f : List ℕ) (h : ℕ) (p : PlainFrame l f h) where
 -- ---- the bit in its octet
 
 raised-clear : (v x : ℕ) → x / v % 2 ≡ 0 → raised v x ≡ x + v
-unfolding raised
+unfolding raised cleared
 raised-clear v x e = rw e (omega arith)
 
 cleared-back : (l : Layer) (x : ℕ) → x / bitValue l % 2 ≡ 0 → cleared (bitValue l) (x + bitValue l) ≡ x
@@ -177,9 +177,9 @@ control-marked Aps f h p o r = octet-raised Aps f h p o r
 
 -- ---- the frame with the bit set is read as secured, behind the same header
 
-opening-secured : {s q u : Bool} (k : Bool) (f : List ℕ) (h a : ℕ) → s ≡ false → q ≡ true → u ≡ true
-    → opening s q u k f h a ≡ readSecured k f h a
-opening-secured k f h a x y z = simp (x, y, z)
+opening-secured : {s q u : Bool} (l : Layer) (f : List ℕ) (h a : ℕ) → s ≡ false → q ≡ true → u ≡ true
+    → opening s q u l f h a ≡ readSecured l f h a
+opening-secured l f h a x y z = simp (x, y, z)
 
 control-within : (l : Layer) → controlOctets l ≤ leastHeader l
 control-within Network = omega arith
@@ -198,14 +198,13 @@ module _ (l : Layer) (f : List ℕ) (h : ℕ) (p : PlainFrame l f h) (o : Octets
       ∙ sym (p .head)
 
   pub read-marked : (a : ℕ)
-      → reading l (securedHeader l f h ++ r) a
-      ≡ readSecured (suits l (at (securedHeader l f h ++ r) h)) (securedHeader l f h ++ r) h (givenTo l a)
+      → reading l (securedHeader l f h ++ r) a ≡ readSecured l (securedHeader l f h ++ r) h (givenTo l a)
   read-marked a =
       reading-is l (securedHeader l f h ++ r) a
-      ∙ opening-secured _ (securedHeader l f h ++ r) _ (givenTo l a) (le-ltb _ _ long)
+      ∙ opening-secured l (securedHeader l f h ++ r) _ (givenTo l a) (le-ltb _ _ long)
       (ap (formOf l) (control-marked l f h p o r) ∙ marked-form l (controlOf l f) (p .unmarked) ∙ p .formed)
       (ap (securedBit l) (control-marked l f h p o r) ∙ marked-bit l (controlOf l f) (p .unmarked))
-      ∙ ap (λ (n : ℕ). readSecured (suits l (at (securedHeader l f h ++ r) n)) (securedHeader l f h ++ r) n (givenTo l a)) head-kept
+      ∙ ap (λ (n : ℕ). readSecured l (securedHeader l f h ++ r) n (givenTo l a)) head-kept
     where
       long : controlOctets l ≤ length (securedHeader l f h ++ r)
       long = simp length-append (omega (arith, control-within l, p .least, secured-length l f h p))

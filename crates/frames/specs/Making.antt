@@ -25,7 +25,7 @@ unfoldable pub cleared : ℕ → ℕ → ℕ
 cleared v x = x - x / v % 2 * v
 
 unfoldable pub raised : ℕ → ℕ → ℕ
-raised v x = x - x / v % 2 * v + v
+raised v x = cleared v x + v
 
 -- the h octets of a frame's header, with the security bit cleared, and set
 unfoldable pub plainHeader : Layer → List ℕ → ℕ → List ℕ
@@ -34,7 +34,6 @@ plainHeader l f h = set (take h f) (bitPlace l) (cleared (bitValue l) (at f (bit
 unfoldable pub securedHeader : Layer → List ℕ → ℕ → List ℕ
 securedHeader l f h = set (take h f) (bitPlace l) (raised (bitValue l) (at f (bitPlace l)))
 
--- ---- laid at the start of an output, where frame and output have them
-
-unfoldable pub laid : List ℕ → List ℕ → ℕ → ℕ → ℕ → List ℕ
-laid o f n i x = if both (leb n (length f)) (leb n (length o)) then onto (set (take n f) i x) o else o
+-- a header x of n octets of f, laid at the start of an output o; o stays where f or o has fewer
+unfoldable pub laid : List ℕ → List ℕ → ℕ → List ℕ → List ℕ
+laid o f n x = if both (leb n (length f)) (leb n (length o)) then onto x o else o

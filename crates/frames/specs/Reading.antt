@@ -9,6 +9,8 @@ use lib.Dec.{eqb, leb, ltb}
 use lib.ListN.{length}
 use Rattle.octets.specs.Choice.{if_then_else_, both}
 use Rattle.octets.specs.Lists.{at}
+use Rattle.frames.specs.declared.Layer.{Layer}
+use Rattle.frames.specs.declared.Layer.the-variants.{Network, Aps}
 use Rattle.frames.specs.declared.Secured.{Secured}
 use Rattle.frames.specs.declared.Read.{Read}
 use Rattle.frames.specs.Security.{tagOctets, identifierOf, extendedOf, auxLength, counterOf, senderOf, sequenceOf}
@@ -41,11 +43,16 @@ announced f h given =
       sequence = sequenceOf f h;
     }
 
--- a secured frame behind its header, where t tells whether identifier and nonce bit suit the layer
-unfoldable pub readSecured : Bool → List ℕ → ℕ → ℕ → Reading
-readSecured t f h given =
+-- whether a security control has a key identifier and a nonce bit of the layer
+abbrev pub suits : Layer → ℕ → Bool
+suits Network c = networkKeyed (identifierOf c) (extendedOf c)
+suits Aps c = apsKeyed (identifierOf c)
+
+-- a secured frame behind h octets of header
+unfoldable pub readSecured : Layer → List ℕ → ℕ → ℕ → Reading
+readSecured l f h given =
     if leb (length f) h then refused 3
-    else (if not t then refused 5
+    else (if not (suits l (at f h)) then refused 5
     else (if ltb (length f) (h + auxLength (at f h) + tagOctets) then refused 3
     else (if noAddress (senderOf f h given) then refused 5
     else secured (announced f h given))))
@@ -58,9 +65,7 @@ readNetwork f =
     if ltb (length f) 2 then refused 3
     else (if not (networkForm (networkControl f)) then refused 4
     else (if networkSecured (networkControl f)
-    then readSecured
-    (networkKeyed (identifierOf (at f (networkHeader f (networkControl f)))) (extendedOf (at f (networkHeader f (networkControl f)))))
-    f (networkHeader f (networkControl f)) 0
+    then readSecured Network f (networkHeader f (networkControl f)) 0
     else readPlain f (networkHeader f (networkControl f))))
 
 unfoldable pub readAps : List ℕ → ℕ → Reading
@@ -68,7 +73,7 @@ readAps f given =
     if ltb (length f) 1 then refused 3
     else (if not (apsForm (at f 0)) then refused 4
     else (if apsSecured (at f 0)
-    then readSecured (apsKeyed (identifierOf (at f (apsHeader (at f 0))))) f (apsHeader (at f 0)) given
+    then readSecured Aps f (apsHeader (at f 0)) given
     else readPlain f (apsHeader (at f 0))))
 
 -- ---- a plain frame that is to be sealed

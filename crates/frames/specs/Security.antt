@@ -3,9 +3,8 @@
 -- extended nonce. On the wire the level is sent as 0 and read as anything; in the nonce and in the authenticated octets
 -- it is replaced by 5, other bits as received."
 -- Assumes nothing.
-use mathlib.Core.Bool.{Bool, true}
 use mathlib.Core.List.{List, [], _∷_, _++_}
-use Prim.Native.Nat.{ℕ, _+_, _-_, _*_, _/_, _%_, _^_}
+use Prim.Native.Nat.{ℕ, _+_, _*_, _/_, _%_}
 use lib.Dec.{eqb}
 use lib.ListN.{take, set}
 use Rattle.octets.specs.Choice.{if_then_else_}
@@ -64,7 +63,8 @@ nonceOf sender counter c = spelled 8 sender ++ (spelled 4 counter ++ (withLevel 
 unfoldable pub authenticated : List ℕ → ℕ → ℕ → List ℕ
 authenticated f h n = set (take n f) h (withLevel (at f h))
 
--- the auxiliary header as sealing sends it, with the sender always; the key sequence number comes last, and only an
--- identifier of 1 sends it
+-- the auxiliary header as sealing sends it, with the sender always: "Security control, frame counter (4), sender (8 ..),
+-- key sequence number (1 if the key identifier is 1)"
 unfoldable pub auxiliary : ℕ → ℕ → ℕ → ℕ → List ℕ
-auxiliary k counter sender seq = wireControl k ∷ (spelled 4 counter ++ (spelled 8 sender ++ (seq ∷ [])))
+auxiliary k counter sender seq =
+    wireControl k ∷ (spelled 4 counter ++ (spelled 8 sender ++ (if eqb k 1 then seq ∷ [] else [])))

@@ -15,9 +15,10 @@ pub use reading::read_aps_command;
 pub use reading::read_aps_plain;
 pub use reading::read_network;
 pub use reading::read_network_plain;
-pub use security::auxiliary_header;
 pub use security::identifier;
+pub use security::lay_auxiliary;
 pub use security::nonce;
+pub use security::wire_control;
 
 pub enum Layer {
     Network,

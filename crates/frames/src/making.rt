@@ -2,16 +2,14 @@
 use crate::Layer;
 use crate::security;
 ghost use mathlib.Core.Path.{_≡_};
-ghost use Prim.Native.Nat.{_≤_};
-ghost use lib.ListN.{length, set, take};
-ghost use Rattle.octets.specs.Lists.{at, onto};
-ghost use Rattle.frames.specs.Security.{withLevel};
-ghost use Rattle.frames.specs.Making.{bitPlace, bitValue, cleared, raised, laid};
+ghost use lib.ListN.{set, take};
+ghost use Rattle.frames.specs.Security.{authenticated};
+ghost use Rattle.frames.specs.Making.{bitPlace, bitValue, cleared, raised, plainHeader, securedHeader, laid};
 
 // The first n octets of f with x in place i, at the start of out; out stays where f or out has
 // fewer.
 fn lay(out: &mut [u8], f: &[u8], n: usize, i: usize, x: u8)
-    ensures { λ _. ⌜ now (out .exit) ≡ laid (now (out .entry)) (now (f .entry)) n i x ⌝ }
+    ensures { λ _. ⌜ now (out .exit) ≡ laid (now (out .entry)) (now (f .entry)) n (set (take n (now (f .entry))) i x) ⌝ }
 {
     if f.len() < n {
         return;
@@ -28,7 +26,7 @@ fn lay(out: &mut [u8], f: &[u8], n: usize, i: usize, x: u8)
 // The authenticated octets of a secured frame: its first n, with level 5 in the security control,
 // which stands at place h.
 pub fn lay_authenticated(out: &mut [u8], f: &[u8], h: usize, n: usize)
-    ensures { λ _. ⌜ now (out .exit) ≡ laid (now (out .entry)) (now (f .entry)) n h (withLevel (at (now (f .entry)) h)) ⌝ }
+    ensures { λ _. ⌜ now (out .exit) ≡ laid (now (out .entry)) (now (f .entry)) n (authenticated (now (f .entry)) h n) ⌝ }
 {
     lay(out, f, n, h, security::with_level(octets::octet(f, h)));
 }
@@ -62,7 +60,7 @@ fn raise(l: Layer, x: u8) -> u8
 
 // The header of the plain frame: its security bit cleared.
 pub fn lay_plain_header(out: &mut [u8], l: Layer, f: &[u8], h: usize)
-    ensures { λ _. ⌜ now (out .exit) ≡ laid (now (out .entry)) (now (f .entry)) h (bitPlace l) (cleared (bitValue l) (at (now (f .entry)) (bitPlace l))) ⌝ }
+    ensures { λ _. ⌜ now (out .exit) ≡ laid (now (out .entry)) (now (f .entry)) h (plainHeader l (now (f .entry)) h) ⌝ }
 {
     let i = place(l);
     lay(out, f, h, i, clear(l, octets::octet(f, i)));
@@ -70,7 +68,7 @@ pub fn lay_plain_header(out: &mut [u8], l: Layer, f: &[u8], h: usize)
 
 // The header of the secured frame: its security bit set.
 pub fn lay_secured_header(out: &mut [u8], l: Layer, f: &[u8], h: usize)
-    ensures { λ _. ⌜ now (out .exit) ≡ laid (now (out .entry)) (now (f .entry)) h (bitPlace l) (raised (bitValue l) (at (now (f .entry)) (bitPlace l))) ⌝ }
+    ensures { λ _. ⌜ now (out .exit) ≡ laid (now (out .entry)) (now (f .entry)) h (securedHeader l (now (f .entry)) h) ⌝ }
 {
     let i = place(l);
     lay(out, f, h, i, raise(l, octets::octet(f, i)));

@@ -1,4 +1,5 @@
 // Frames read in the order in which document 01 judges them, up to where a key is looked for.
+use crate::Layer;
 use crate::Read;
 use crate::Secured;
 use crate::aps_header;
@@ -8,9 +9,7 @@ use answers::Refusal;
 ghost use mathlib.Core.Path.{_≡_};
 ghost use Prim.Native.Nat.{_≤_, _<_};
 ghost use lib.ListN.{length};
-ghost use Rattle.octets.specs.Lists.{at};
-ghost use Rattle.frames.specs.Security.{auxLength};
-ghost use Rattle.frames.specs.Reading.{toldRead, announced, readSecured, readPlain, readNetwork, readAps, readNetworkPlain, readApsPlain, readApsCommand};
+ghost use Rattle.frames.specs.Reading.{toldRead, announced, suits, readSecured, readPlain, readNetwork, readAps, readNetworkPlain, readApsPlain, readApsCommand};
 
 // What the auxiliary header behind h octets of header announces.
 fn announce(f: &[u8], h: usize, given: u64) -> Secured
@@ -32,15 +31,26 @@ fn announce(f: &[u8], h: usize, given: u64) -> Secured
     }
 }
 
-// A secured frame behind its header; suits tells whether identifier and nonce bit are the layer's.
-fn secured_behind(suits: bool, f: &[u8], h: usize, given: u64) -> Read
+// Whether a security control has a key identifier and a nonce bit of the layer.
+fn is_suited(l: Layer, control: u8) -> bool
+    ensures { λ r. ⌜ r ≡ suits l control ⌝ }
+{
+    let identifier = security::identifier(control);
+    match l {
+        Layer::Network => network_header::is_keyed(identifier, security::extended(control)),
+        Layer::Aps => aps_header::is_keyed(identifier),
+    }
+}
+
+// A secured frame behind h octets of header.
+fn secured_behind(l: Layer, f: &[u8], h: usize, given: u64) -> Read
     requires { ⌜ h ≤ 600 ⌝ }
-    ensures { λ r. ⌜ toldRead r ≡ readSecured suits (now (f .entry)) h given ⌝ }
+    ensures { λ r. ⌜ toldRead r ≡ readSecured l (now (f .entry)) h given ⌝ }
 {
     if f.len() <= h {
         return Read::Refused(Refusal::Short);
     }
-    if !suits {
+    if !is_suited(l, f[h]) {
         return Read::Refused(Refusal::Security);
     }
     if f.len() < h + security::aux_length(f[h]) + 4 {
@@ -74,12 +84,7 @@ pub fn read_network(f: &[u8]) -> Read
     }
     let h = network_header::header_length(f, c);
     if network_header::is_secured(c) {
-        let control = octets::octet(f, h);
-        let suits = network_header::is_keyed(
-            security::identifier(control),
-            security::extended(control),
-        );
-        return secured_behind(suits, f, h, 0);
+        return secured_behind(Layer::Network, f, h, 0);
     }
     plain_behind(f, h)
 }
@@ -97,8 +102,7 @@ pub fn read_aps(f: &[u8], given: u64) -> Read
     }
     let h = aps_header::header_length(c);
     if aps_header::is_secured(c) {
-        let suits = aps_header::is_keyed(security::identifier(octets::octet(f, h)));
-        return secured_behind(suits, f, h, given);
+        return secured_behind(Layer::Aps, f, h, given);
     }
     plain_behind(f, h)
 }

@@ -1,8 +1,10 @@
 // The security control, the auxiliary header and the nonce.
 ghost use mathlib.Core.Path.{_≡_};
+ghost use mathlib.Core.List.{[], _∷_, _++_};
 ghost use Prim.Native.Nat.{_%_, _≤_, _<_};
 ghost use lib.ListN.{length};
-ghost use Rattle.octets.specs.Lists.{at};
+ghost use Rattle.octets.specs.Lists.{pasted};
+ghost use Rattle.octets.specs.Least.{spelled};
 ghost use Rattle.frames.specs.Security.{identifierOf, extendedOf, withLevel, wireControl, auxLength, senderOf, sequenceOf, nonceOf, auxiliary};
 
 // The key identifier that a security control names.
@@ -24,12 +26,12 @@ pub(crate) fn with_level(control: u8) -> u8
     (control & 0xf8) | 5
 }
 
-// Level 0, an identifier of two bits, extended nonce.
-fn wire_control(identifier: u8) -> u8
-    requires { ⌜ identifier < 4 ⌝ }
-    ensures { λ r. ⌜ r ≡ wireControl identifier ⌝ }
+// The security control that sealing sends: level 0, the identifier, of which only the two lowest
+// bits count, and extended nonce.
+pub fn wire_control(identifier: u8) -> u8
+    ensures { λ r. ⌜ r ≡ wireControl (identifier % 4) ⌝ }
 {
-    (identifier << 3) | 0x20
+    ((identifier & 3) << 3) | 0x20
 }
 
 pub(crate) fn aux_length(control: u8) -> usize
@@ -96,12 +98,10 @@ pub fn nonce(sender: u64, counter: u32, control: u8) -> [u8; 13]
     ]
 }
 
-// The auxiliary header as it is sent under a key identifier, of which only the two lowest bits
-// count. The last octet is the key sequence number, which only identifier 1 sends.
-pub fn auxiliary_header(identifier: u8, counter: u32, sender: u64, sequence: u8) -> [u8; 14]
-    ensures { λ r. ⌜ r ≡ auxiliary (identifier % 4) counter sender sequence ⌝ }
+// The fields of the auxiliary header, the key sequence number last.
+fn aux_fields(control: u8, counter: u32, sender: u64, sequence: u8) -> [u8; 14]
+    ensures { λ r. ⌜ r ≡ control ∷ (spelled 4 counter ++ (spelled 8 sender ++ (sequence ∷ []))) ⌝ }
 {
-    let first = wire_control(identifier % 4);
     let c1 = counter / 256;
     let c2 = c1 / 256;
     let c3 = c2 / 256;
@@ -113,7 +113,7 @@ pub fn auxiliary_header(identifier: u8, counter: u32, sender: u64, sequence: u8)
     let s6 = s5 / 256;
     let s7 = s6 / 256;
     [
-        first,
+        control,
         (counter % 256) as u8,
         (c1 % 256) as u8,
         (c2 % 256) as u8,
@@ -128,4 +128,25 @@ pub fn auxiliary_header(identifier: u8, counter: u32, sender: u64, sequence: u8)
         (s7 % 256) as u8,
         sequence,
     ]
+}
+
+// The auxiliary header that sealing sends, laid into out from place i on; only identifier 1 sends
+// the key sequence number. Of the identifier only the two lowest bits count. Where the header does
+// not fit, out is as it stood.
+pub fn lay_auxiliary(
+    out: &mut [u8],
+    i: usize,
+    identifier: u8,
+    counter: u32,
+    sender: u64,
+    sequence: u8,
+)
+    ensures { λ _. ⌜ now (out .exit) ≡ pasted (now (out .entry)) i (auxiliary (identifier % 4) counter sender sequence) ⌝ }
+{
+    let fields = aux_fields(wire_control(identifier), counter, sender, sequence);
+    if identifier % 4 == 1 {
+        octets::paste_at(out, i, &fields);
+    } else {
+        octets::paste_at(out, i, &fields[..13]);
+    }
 }

@@ -1,37 +1,37 @@
--- What follows from the second statement, of any board that meets it: a replay is refused; a frame that is refused changes
--- nothing for any later frame; a board that repeats its answer, or never raises a floor, does not meet it; and a board that
--- refuses all does not either.
+-- What follows from the statements, of any board that meets them: no two sealed frames carry the same counter; a stale frame is
+-- refused, whatever the board would tell of it; so is a replay; a refused frame leaves what may be opened as it was; a board that
+-- repeats its reply does not meet the second; and neither does one that installed a key and refuses a new frame sealed under it.
+-- Of ours: after a refused frame every later call is answered as if it had not come.
 -- Assumes nothing.
-use mathlib.Core.Path.{_≡_, refl, sym, ap, _∙_}
-use mathlib.Core.Bool.{Bool, true, false}
+use mathlib.Core.Path.{_≡_, refl, sym, subst, ap, _∙_}
+use mathlib.Core.Bool.{Bool, true, false, not}
 use mathlib.Core.List.{List, [], _∷_, _++_}
-use Prim.Native.Nat.{ℕ, _+_, _<_, _≤_}
+use Prim.Native.Nat.{ℕ, zero, suc, _+_, _<_, _≤_}
 use native.Mathlib.Omega.{arith}
 use lib.Dec.{eqb, leb, ltb}
-use lib.ListN.{length}
-use borrow.Author.Tests.{eqb-true, eq-eqb, lt-ltb, le-ltb, le-leb}
+use lib.ListN.{length, getD}
+use borrow.Author.Tests.{eqb-true, eqb-false, eq-eqb, ne-eqb, lt-ltb, le-ltb, le-leb, ltb-true}
 use Rattle.octets.specs.Choice.{if_then_else_, both}
 use Rattle.octets.specs.Lists.{Octets}
-use Rattle.history.specs.Calls.{Call, opening, gave, Answers}
-use Rattle.history.specs.Told.{Holder, Event, Key, slot, link, nowhere, installed, removed, forgot, heard, sent, nothing, none, key, same, keyIn, numbered, slotFor, holderAt, holderFor, openedIn, member}
-use Rattle.history.specs.Story.{readAt, taken, hearing, eventOf, story}
-use Rattle.history.specs.Statement.{longestAt, keyAt, aboveAll, room, opensUnder, opensRead, opensAfter, Second}
-use Rattle.history.specs.Running.{Held, byNetwork, byAps, step, run, answers}
-use Rattle.history.proofs.Searches.{clash, first-ext}
+use Rattle.history.specs.Calls.{Call, install, opening, Reply, gave, refuses, Exchange, Replies, exchanges, SealsOctets}
+use Rattle.history.specs.Events.{Holder, slot, link, nowhere, Key, none, key, Heard, Event, keyed, forgot, heard, sent, same, keyIn, slotFor, holderFor, without, heardIn, sentIn}
+use Rattle.history.specs.Story.{readAt, eventsOf, story}
+use Rattle.history.specs.Statement.{readings, lower, rising, First, longestAt, keyAt, aboveAll, room, passesUnder, passesRead, passes, Rightly, Second}
+use Rattle.history.specs.Running.{Held, byNetwork, byAps, step, run, replies}
+use Rattle.history.proofs.Searches.{clash}
 use Rattle.history.proofs.First.{read-same}
-use Rattle.history.proofs.Second.{key-nowhere}
+use Rattle.history.proofs.Second.{key-nowhere, plain-not}
 use Rattle.history.proofs.Ways.{network-ways, aps-ways}
-use Rattle.answers.specs.declared.Guard.{Guard}
-use Rattle.answers.specs.declared.Guard.the-variants.{Under}
-use Rattle.answers.specs.Numbers.{opened, turnedDown}
+use Rattle.answers.specs.Numbers.{ProtectionTold, under, opened, turnedDown}
 use Rattle.frames.specs.declared.Layer.{Layer}
 use Rattle.frames.specs.declared.Layer.the-variants.{Network, Aps}
 use Rattle.frames.specs.declared.Secured.{Secured}
 use Rattle.frames.specs.Security.{identifierOf}
 use Rattle.frames.specs.Reading.{Reading, refused, plain, secured}
+use Rattle.board.specs.Places.{firstAt}
 use Rattle.board.specs.Sending.{top}
 use Rattle.seals.specs.Sealing.{longest, genuine, sentOctets, sealedFrame}
-use Rattle.seals.proofs.Again.{ToSeal, announcing, read-again, message-again, length-again}
+use Rattle.seals.proofs.Again.{ToSeal, announcing, read-again, message-again, length-again, octets-again}
 use Rattle.seals.proofs.Opened.{both-true}
 use Rattle.network.specs.Opening as network
 use Rattle.aps.specs.Opening as aps
@@ -40,255 +40,343 @@ both-false : (t : Bool) → both t false ≡ false
 both-false true = refl
 both-false false = refl
 
--- ---- a counter that was opened, from that sender under that key
+not-back : (t u : Bool) → not t ≡ u → t ≡ not u
+not-back true u e = ap not e
+not-back false u e = ap not e
 
-above-not : (n : ℕ) (l : List ℕ) → member n l ≡ true → aboveAll n l ≡ false
-above-not n [] e = clash e refl
-above-not n (c ∷ l) e = go (above-not n l) (eqb c n) refl e
+-- ---- of the first statement: "No two sealed frames carry the same outgoing counter."
+
+-- two frames, each read as secured, with different counters
+abbrev pub Apart : Reading → Reading → Type 0
+Apart (secured s) (secured t) = s .counter ≡ t .counter → ⊥
+Apart (secured s) (plain m) = ⊥
+Apart (secured s) (refused m) = ⊥
+Apart (plain n) r = ⊥
+Apart (refused n) r = ⊥
+
+abbrev Below : ℕ → Reading → Type 0
+Below n (secured s) = s .counter < n
+Below n (plain k) = ⊥
+Below n (refused k) = ⊥
+
+below-less : (k n : ℕ) (r : Reading) → k < n → Below k r → Below n r
+below-less k n (secured s) h b = omega arith
+below-less k n (plain i) h b = b
+below-less k n (refused i) h b = b
+
+below-at : (rs : List Reading) (n : ℕ) → rising rs ≡ true → lower rs n ≡ true → (j : ℕ) → j < length rs → Below n (getD rs j (plain 0))
+below-at [] n r l j h = absurd (omega arith)
+below-at (secured s ∷ rs) n r l zero h = ltb-true (s .counter) n l
+below-at (secured s ∷ rs) n r l (suc j) h =
+    let t = both-true (lower rs (s .counter)) (rising rs) r in
+    below-less (s .counter) n (getD rs j (plain 0)) (ltb-true (s .counter) n l) (below-at rs (s .counter) (t .1) (t .0) j (omega arith))
+below-at (plain k ∷ rs) n r l j h = clash r refl
+below-at (refused k ∷ rs) n r l j h = clash r refl
+
+below-apart : (s : Secured) (r : Reading) → Below (s .counter) r → Apart (secured s) r
+below-apart s (secured t) b = λ e. omega arith
+below-apart s (plain i) b = b
+below-apart s (refused i) b = b
+
+rising-apart : (rs : List Reading) → rising rs ≡ true → (i j : ℕ) → i < j → j < length rs → Apart (getD rs i (plain 0)) (getD rs j (plain 0))
+rising-apart [] r i j h k = absurd (omega arith)
+rising-apart (secured s ∷ rs) r i zero h k = absurd (omega arith)
+rising-apart (secured s ∷ rs) r zero (suc j) h k =
+    let t = both-true (lower rs (s .counter)) (rising rs) r in
+    below-apart s (getD rs j (plain 0)) (below-at rs (s .counter) (t .1) (t .0) j (omega arith))
+rising-apart (secured s ∷ rs) r (suc i) (suc j) h k =
+    rising-apart rs (both-true (lower rs (s .counter)) (rising rs) r .1) i j (omega arith) (omega arith)
+rising-apart (plain n ∷ rs) r i j h k = clash r refl
+rising-apart (refused n ∷ rs) r i j h k = clash r refl
+
+pub no-two-same : (board : Replies) → First board → (cs : List Call) → SealsOctets cs
+    → let rs = readings (sentIn (story (exchanges board cs))) in
+    (i j : ℕ) → i < j → j < length rs → Apart (getD rs i (plain 0)) (getD rs j (plain 0))
+no-two-same board meets cs o i j h k = rising-apart (readings (sentIn (story (exchanges board cs)))) (meets cs o) i j h k
+
+-- ---- calls after calls
+
+-- the exchanges of the calls ds, made after cs
+abbrev pub later : Replies → List Call → List Call → List Exchange
+later board [] cs = []
+later board (d ∷ ds) cs = record { call = d; reply = board (ds ++ cs) d } ∷ later board ds cs
+
+-- the events that exchanges tell after the events h
+abbrev pub since : List Exchange → List Event → List Event
+since [] h = []
+since (x ∷ xs) h = eventsOf (since xs h ++ h) (x .call) (x .reply) ++ since xs h
+
+append-three : (xs ys zs : List Event) → (xs ++ ys) ++ zs ≡ xs ++ (ys ++ zs)
+append-three [] ys zs = refl
+append-three (x ∷ xs) ys zs = ap (λ (l : List Event). x ∷ l) (append-three xs ys zs)
+
+story-since : (board : Replies) (ds cs : List Call)
+    → story (exchanges board (ds ++ cs)) ≡ since (later board ds cs) (story (exchanges board cs)) ++ story (exchanges board cs)
+story-since board [] cs = refl
+story-since board (d ∷ ds) cs =
+    ap (λ (h : List Event). eventsOf h d (board (ds ++ cs) d) ++ h) (story-since board ds cs)
+    ∙ sym (append-three (eventsOf (es ++ h) d (board (ds ++ cs) d)) es h)
   where
-    go : (member n l ≡ true → aboveAll n l ≡ false) → (t : Bool) → eqb c n ≡ t → (if t then true else member n l) ≡ true
-        → both (ltb c n) (aboveAll n l) ≡ false
-    go ih true f e = ap (λ (t : Bool). both t (aboveAll n l)) (le-ltb c n (omega (arith, eqb-true c n f)))
-    go ih false f e = ap (both (ltb c n)) (ih e) ∙ both-false (ltb c n)
+    h : List Event
+    h = story (exchanges board cs)
 
-module _ (m : ℕ) (h : List Event) (l : Layer) (f : List ℕ) (g : ℕ) (o : List ℕ) where
-  opens-read : (r : Reading) → readAt l f g ≡ r → opensRead m h l f r ≡ false → opensAfter m h l f g o ≡ false
-  unfolding opensAfter
-  opens-read r e q =
-      ap (λ (t : Bool). both (leb longest (length o)) (both (leb (length f) (longestAt l)) t)) (ap (opensRead m h l f) e ∙ q)
-      ∙ ap (both (leb longest (length o))) (both-false (leb (length f) (longestAt l))) ∙ both-false (leb longest (length o))
+    es : List Event
+    es = since (later board ds cs) (story (exchanges board cs))
 
-  -- the frame is refused
-  pub stale : (s : Secured) → readAt l f g ≡ secured s → member (s .counter) (openedIn h (holderFor h l s) (s .sender)) ≡ true
-      → opensAfter m h l f g o ≡ false
-  unfolding opensRead opensUnder
-  stale s e q = opens-read (secured s) e (go (keyIn h (holderFor h l s)))
-    where
-      go : (x : Key) → opensUnder m h l f s (holderFor h l s) x ≡ false
-      go none = refl
-      go (key n k) =
-          ap (λ (t : Bool). both (ltb (s .counter) top) (both t (both (genuine (keyAt l s k) f s) (room m h (holderFor h l s) (s .sender)))))
-          (above-not (s .counter) (openedIn h (holderFor h l s) (s .sender)) q)
-          ∙ both-false (ltb (s .counter) top)
+-- ---- frames that are not above all that were opened
 
-  -- what a frame that is opened tells: it is read as secured, and its key is there
-  record Told : Type 0 where
-    pub announced : Secured
-    pub read : readAt l f g ≡ secured announced
-    pub number : ℕ
-    pub octets : List ℕ
-    pub found : keyIn h (holderFor h l announced) ≡ key number octets
+-- nothing was installed or removed at x, and sender a was not forgotten there
+abbrev pub untouched : Holder → ℕ → List Event → Bool
+untouched x a [] = true
+untouched x a (keyed y k ∷ h) = both (not (same y x)) (untouched x a h)
+untouched x a (forgot y b ∷ h) = both (not (both (same y x) (eqb b a))) (untouched x a h)
+untouched x a (heard y r ∷ h) = untouched x a h
+untouched x a (sent s ∷ h) = untouched x a h
 
-  tells : opensAfter m h l f g o ≡ true → Told
-  unfolding opensAfter opensRead opensUnder
-  tells e =
-      let t = both-true (leb longest (length o)) (both (leb (length f) (longestAt l)) (opensRead m h l f (readAt l f g))) e .1 in
-      reads (readAt l f g) refl (both-true (leb (length f) (longestAt l)) (opensRead m h l f (readAt l f g)) t .1)
-    where
-      keyed : (s : Secured) → readAt l f g ≡ secured s → (x : Key) → keyIn h (holderFor h l s) ≡ x → opensUnder m h l f s (holderFor h l s) x ≡ true → Told
-      keyed s q none d u = clash u refl
-      keyed s q (key n k) d u = record { announced = s; read = q; number = n; octets = k; found = d }
-
-      reads : (r : Reading) → readAt l f g ≡ r → opensRead m h l f r ≡ true → Told
-      reads (refused n) q u = clash u refl
-      reads (plain n) q u = clash u refl
-      reads (secured s) q u = keyed s q (keyIn h (holderFor h l s)) refl u
-
--- ---- events that install, remove and forget nothing
-
-abbrev pub quiet : Event → Bool
-quiet (installed y n k) = false
-quiet (removed y) = false
-quiet (forgot y a) = false
-quiet (heard y a n) = true
-quiet (sent r) = true
-quiet nothing = true
-
--- calls ds after cs that install, remove and forget nothing, as the board answered them
-abbrev pub quietly : Answers → List Call → List Call → Bool
-quietly ans [] cs = true
-quietly ans (d ∷ ds) cs = both (quiet (eventOf (story ans (ds ++ cs)) d (ans (ds ++ cs) d))) (quietly ans ds cs)
-
-quiet-key : (e : Event) (h : List Event) (x : Holder) → quiet e ≡ true → keyIn (e ∷ h) x ≡ keyIn h x
-quiet-key (installed y n k) h x q = clash q refl
-quiet-key (removed y) h x q = clash q refl
-quiet-key (forgot y a) h x q = clash q refl
-quiet-key (heard y a n) h x q = refl
-quiet-key (sent r) h x q = refl
-quiet-key nothing h x q = refl
-
-member-more : (c n : ℕ) (l : List ℕ) (t : Bool) → member c l ≡ true → member c (if t then n ∷ l else l) ≡ true
-member-more c n l true e = rw e (go (eqb n c))
+above-without : (a b c : ℕ) (l : List Heard) → (b ≡ a → ⊥) → aboveAll a c (without b l) ≡ aboveAll a c l
+above-without a b c [] ne = refl
+above-without a b c (r ∷ l) ne = go (above-without a b c l ne) (eqb (r .sender) b) refl
   where
-    go : (t : Bool) → (if t then true else true) ≡ true
-    go true = refl
-    go false = refl
-member-more c n l false e = e
+    go : aboveAll a c (without b l) ≡ aboveAll a c l → (t : Bool) → eqb (r .sender) b ≡ t
+        → aboveAll a c (if t then without b l else r ∷ without b l) ≡ aboveAll a c (r ∷ l)
+    go ih true e =
+        ih ∙ sym (ap (λ (t : Bool). both (if t then ltb (r .counter) c else true) (aboveAll a c l))
+        (ne-eqb (r .sender) a (λ f. ne (sym (eqb-true (r .sender) b e) ∙ f))))
+    go ih false e = ap (both (if eqb (r .sender) a then ltb (r .counter) c else true)) ih
 
-quiet-opened : (e : Event) (h : List Event) (x : Holder) (a c : ℕ) → quiet e ≡ true → member c (openedIn h x a) ≡ true
-    → member c (openedIn (e ∷ h) x a) ≡ true
-quiet-opened (installed y n k) h x a c q i = clash q refl
-quiet-opened (removed y) h x a c q i = clash q refl
-quiet-opened (forgot y b) h x a c q i = clash q refl
-quiet-opened (heard y b n) h x a c q i = member-more c n (openedIn h x a) (both (same y x) (eqb b a)) i
-quiet-opened (sent r) h x a c q i = i
-quiet-opened nothing h x a c q i = i
-
-holder-same : (h k : List Event) (l : Layer) (s : Secured) → ((x : Holder) → keyIn k x ≡ keyIn h x) → holderFor k l s ≡ holderFor h l s
-unfolding slotFor
-holder-same h k Network s e = ap holderAt (first-ext _ _ 2 0 (λ i a b. ap (λ (x : Key). numbered x (s .sequence)) (e (slot i))))
-holder-same h k Aps s e = refl
+-- what was not above stays so
+stale-stays : (x : Holder) (a c : ℕ) (es h : List Event) → untouched x a es ≡ true → aboveAll a c (heardIn h x) ≡ false
+    → aboveAll a c (heardIn (es ++ h) x) ≡ false
+stale-stays x a c [] h u e = e
+stale-stays x a c (keyed y k ∷ es) h u e =
+    let t = both-true (not (same y x)) (untouched x a es) u in
+    rw (not-back (same y x) true (t .0)) (stale-stays x a c es h (t .1) e)
+stale-stays x a c (forgot y b ∷ es) h u e =
+    let t = both-true (not (both (same y x) (eqb b a))) (untouched x a es) u in
+    go (same y x) (not-back (both (same y x) (eqb b a)) true (t .0)) (stale-stays x a c es h (t .1) e)
+  where
+    go : (t : Bool) → both t (eqb b a) ≡ false → aboveAll a c (heardIn (es ++ h) x) ≡ false
+        → aboveAll a c (if t then without b (heardIn (es ++ h) x) else heardIn (es ++ h) x) ≡ false
+    go true f ih = above-without a b c (heardIn (es ++ h) x) (eqb-false b a f) ∙ ih
+    go false f ih = ih
+stale-stays x a c (heard y r ∷ es) h u e = go (same y x) (stale-stays x a c es h u e)
+  where
+    go : (t : Bool) → aboveAll a c (heardIn (es ++ h) x) ≡ false
+        → aboveAll a c (if t then r ∷ heardIn (es ++ h) x else heardIn (es ++ h) x) ≡ false
+    go true ih = ap (both (if eqb (r .sender) a then ltb (r .counter) c else true)) ih ∙ both-false (if eqb (r .sender) a then ltb (r .counter) c else true)
+    go false ih = ih
+stale-stays x a c (sent s ∷ es) h u e = stale-stays x a c es h u e
 
 same-self : (h : List Event) (x : Holder) (n : ℕ) (k : List ℕ) → keyIn h x ≡ key n k → same x x ≡ true
 same-self h (slot i) n k e = eq-eqb i i refl
 same-self h (link a) n k e = eq-eqb a a refl
 same-self h nowhere n k e = let z : none ≡ key n k = sym (key-nowhere h) ∙ e in cc
 
--- what tells nothing changes nothing
-module _ (m : ℕ) (h : List Event) (l : Layer) (f : List ℕ) where
-  room-still : (x : Holder) (a : ℕ) → room m (nothing ∷ h) x a ≡ room m h x a
-  room-still (slot i) a = refl
-  room-still (link b) a = refl
-  room-still nowhere a = refl
+-- ---- what the checks tell
 
-  under-still : (s : Secured) (x : Holder) (y : Key) → opensUnder m (nothing ∷ h) l f s x y ≡ opensUnder m h l f s x y
-  unfolding opensUnder
-  under-still s x none = refl
-  under-still s x (key n k) =
-      ap (λ (t : Bool). both (ltb (s .counter) top) (both (aboveAll (s .counter) (openedIn h x (s .sender))) (both (genuine (keyAt l s k) f s) t)))
-      (room-still x (s .sender))
+module _ (m : ℕ) (h : List Event) (l : Layer) (f : List ℕ) (g : ℕ) (o : List ℕ) (s : Secured) (read : readAt l f g ≡ secured s) where
+  abbrev x : Holder
+  x = holderFor h l s
 
-  read-still : (r : Reading) → opensRead m (nothing ∷ h) l f r ≡ opensRead m h l f r
-  unfolding opensRead
-  read-still (refused n) = refl
-  read-still (plain n) = refl
-  read-still (secured s) =
-      ap (λ (x : Holder). opensUnder m (nothing ∷ h) l f s x (keyIn h x)) (holder-same h (nothing ∷ h) l s (λ x. refl))
-      ∙ under-still s (holderFor h l s) (keyIn h (holderFor h l s))
+  passes-not : passesRead m h l f (secured s) ≡ false → passes m h l f g o ≡ false
+  unfolding passes
+  passes-not q =
+      ap (λ (t : Bool). both (leb longest (length o)) (both (leb (length f) (longestAt l)) t)) (ap (passesRead m h l f) read ∙ q)
+      ∙ ap (both (leb longest (length o))) (both-false (leb (length f) (longestAt l))) ∙ both-false (leb longest (length o))
 
-  after-still : (g : ℕ) (o : List ℕ) → opensAfter m (nothing ∷ h) l f g o ≡ opensAfter m h l f g o
-  unfolding opensAfter
-  after-still g o = ap (λ (t : Bool). both (leb longest (length o)) (both (leb (length f) (longestAt l)) t)) (read-still (readAt l f g))
+  stale-not : aboveAll (s .sender) (s .counter) (heardIn h x) ≡ false → passes m h l f g o ≡ false
+  unfolding passesRead passesUnder
+  stale-not q = passes-not (go (keyIn h x))
+    where
+      go : (y : Key) → passesUnder m h l f s x y ≡ false
+      go none = refl
+      go (key n k) =
+          ap (λ (t : Bool). both (ltb (s .counter) top) (both t (both (genuine (keyAt l s k) f s) (room m h x (s .sender))))) q
+          ∙ both-false (ltb (s .counter) top)
 
--- ---- of any board that meets the statement
+  -- a frame that passes has its key
+  record Found : Type 0 where
+    pub number : ℕ
+    pub octets : List ℕ
+    pub found : keyIn h x ≡ key number octets
 
-module _ (m : ℕ) (ans : Answers) (meets : Second m ans) (cs : List Call) (l : Layer) (f : List ℕ) (g : ℕ) (o : List ℕ) (octets : Octets f) where
-  abbrev once : Call
-  once = opening l f g o
+  has-key : passes m h l f g o ≡ true → Found
+  unfolding passes passesRead passesUnder
+  has-key e =
+      let t = both-true (leb longest (length o)) (both (leb (length f) (longestAt l)) (passesRead m h l f (readAt l f g))) e .1 in
+      let u = both-true (leb (length f) (longestAt l)) (passesRead m h l f (readAt l f g)) t .1 in
+      keyed-so (keyIn h x) refl (ap (passesRead m h l f) (sym read) ∙ u)
+    where
+      keyed-so : (y : Key) → keyIn h x ≡ y → passesUnder m h l f s x y ≡ true → Found
+      keyed-so none d u = clash u refl
+      keyed-so (key n k) d u = record { number = n; octets = k; found = d }
 
-  module _ (open-first : taken (ans cs once) ≡ true) where
-    t : Told m (story ans cs) l f g o
-    t = tells m (story ans cs) l f g o (sym (meets cs l f g o octets) ∙ open-first)
+-- ---- of any board that meets the second statement
 
-    abbrev x : Holder
-    x = holderFor (story ans cs) l (t .announced)
+module _ (m : ℕ) (board : Replies) (meets : Second m board) where
+  -- a secured frame
+  opened-so : (cs : List Call) (l : Layer) (f : List ℕ) (g : ℕ) (o : List ℕ) (s : Secured) → Octets f → readAt l f g ≡ secured s
+      → not (refuses (board cs (opening l f g o))) ≡ passes m (story (exchanges board cs)) l f g o
+  opened-so cs l f g o s octets e =
+      subst (λ (r : Reading). Rightly r (board cs (opening l f g o)) (passes m (story (exchanges board cs)) l f g o)) e (meets cs l f g o octets)
 
-    -- what is told from then on
-    record Since (h : List Event) : Type 0 where
-      pub keys : (y : Holder) → keyIn h y ≡ keyIn (story ans cs) y
-      pub among : member (t .announced .counter) (openedIn h x (t .announced .sender)) ≡ true
+  -- a frame that is not above all counters opened is refused, whatever else might be told of it: also as unsecured
+  pub stale-refused : (cs : List Call) (l : Layer) (f : List ℕ) (g : ℕ) (o : List ℕ) (s : Secured) → Octets f → readAt l f g ≡ secured s
+      → let h = story (exchanges board cs) in
+      aboveAll (s .sender) (s .counter) (heardIn h (holderFor h l s)) ≡ false → refuses (board cs (opening l f g o)) ≡ true
+  stale-refused cs l f g o s octets e q =
+      not-back (refuses (board cs (opening l f g o))) false
+      (opened-so cs l f g o s octets e ∙ stale-not m (story (exchanges board cs)) l f g o s e q)
 
-    at-once : Since (story ans (once ∷ cs))
-    at-once = rw (open-first, t .read) (record { keys = λ y. refl; among = among })
-      where
-        among : member (t .announced .counter)
-            (openedIn (heard x (t .announced .sender) (t .announced .counter) ∷ story ans cs) x (t .announced .sender)) ≡ true
-        among =
-            rw (
-              same-self (story ans cs) x (t .number) (t .octets) (t .found),
-              eq-eqb (t .announced .sender) (t .announced .sender) refl,
-              eq-eqb (t .announced .counter) (t .announced .counter) refl,
-            )
+  module _ (cs : List Call) (l : Layer) (f : List ℕ) (g : ℕ) (o : List ℕ) (s : Secured) (octets : Octets f) (read : readAt l f g ≡ secured s)
+      (open-first : refuses (board cs (opening l f g o)) ≡ false) where
+    abbrev once : Call
+    once = opening l f g o
 
-    since : (ds : List Call) → quietly ans ds (once ∷ cs) ≡ true → Since (story ans (ds ++ (once ∷ cs)))
-    since [] q = at-once
-    since (d ∷ ds) q = go (both-true _ _ q) (since ds)
-      where
-        e : Event
-        e = eventOf (story ans (ds ++ (once ∷ cs))) d (ans (ds ++ (once ∷ cs)) d)
+    abbrev home : Holder
+    home = holderFor (story (exchanges board cs)) l s
 
-        go : (quiet e ≡ true) × (quietly ans ds (once ∷ cs) ≡ true) → (quietly ans ds (once ∷ cs) ≡ true → Since (story ans (ds ++ (once ∷ cs))))
-            → Since (e ∷ story ans (ds ++ (once ∷ cs)))
-        go p ih =
-            let w = ih (p .1) in
-            record {
-              keys = λ y. quiet-key e (story ans (ds ++ (once ∷ cs))) y (p .0) ∙ w .keys y;
-              among = quiet-opened e (story ans (ds ++ (once ∷ cs))) x (t .announced .sender) (t .announced .counter) (p .0) (w .among);
-            }
+    key-there : Found m (story (exchanges board cs)) l f g o s read
+    key-there = has-key m (story (exchanges board cs)) l f g o s read (sym (opened-so cs l f g o s octets read) ∙ ap not open-first)
 
-    -- a replay is refused, at once and after any calls that install, remove and forget nothing, whatever the output
-    pub replay-refused : (ds : List Call) → quietly ans ds (once ∷ cs) ≡ true → (p : List ℕ)
-        → taken (ans (ds ++ (once ∷ cs)) (opening l f g p)) ≡ false
-    replay-refused ds q p =
-        let h = story ans (ds ++ (once ∷ cs)) in
-        let w = since ds q in
-        meets (ds ++ (once ∷ cs)) l f g p octets
-        ∙ stale m h l f g p (t .announced) (t .read)
-        (ap (λ (y : Holder). member (t .announced .counter) (openedIn h y (t .announced .sender)))
-        (holder-same (story ans cs) h l (t .announced) (w .keys)) ∙ w .among)
+    -- as soon as it was opened
+    not-above : aboveAll (s .sender) (s .counter) (heardIn (story (exchanges board (once ∷ cs))) home) ≡ false
+    not-above =
+        rw (
+          open-first,
+          read,
+          same-self (story (exchanges board cs)) home (key-there .number) (key-there .octets) (key-there .found),
+          eq-eqb (s .sender) (s .sender) refl,
+          le-ltb (s .counter) (s .counter) (omega arith),
+        ) refl
 
-    -- so no board that opens a frame and repeats its answer to it meets the statement
-    pub never-repeats : ans (once ∷ cs) once ≡ ans cs once → ⊥
-    never-repeats e = clash (ap taken e ∙ open-first) (replay-refused [] refl o)
+    -- A frame that was opened is refused when it comes again, with any sender under which it is read the same, after any calls by
+    -- which its key's place has no other key, its sender is not forgotten there, and the frame's key still stands there.
+    pub replay-refused : (ds : List Call)
+        → untouched home (s .sender) (since (later board ds (once ∷ cs)) (story (exchanges board (once ∷ cs)))) ≡ true
+        → holderFor (story (exchanges board (ds ++ (once ∷ cs)))) l s ≡ home
+        → (k : ℕ) (p : List ℕ) → readAt l f k ≡ secured s → refuses (board (ds ++ (once ∷ cs)) (opening l f k p)) ≡ true
+    replay-refused ds u same-place k p again =
+        stale-refused (ds ++ (once ∷ cs)) l f k p s octets again
+        (ap (λ (y : Holder). aboveAll (s .sender) (s .counter) (heardIn (story (exchanges board (ds ++ (once ∷ cs)))) y)) same-place
+        ∙ ap (λ (h : List Event). aboveAll (s .sender) (s .counter) (heardIn h home)) (story-since board ds (once ∷ cs))
+        ∙ stale-stays home (s .sender) (s .counter) (since (later board ds (once ∷ cs)) (story (exchanges board (once ∷ cs))))
+        (story (exchanges board (once ∷ cs))) u not-above)
 
-    -- nor one that answers after opening as it would have before: one that never raises a floor
-    pub always-raises : ((d : Call) → ans (once ∷ cs) d ≡ ans cs d) → ⊥
-    always-raises e = never-repeats (e once)
+  -- ---- a frame that is refused
 
-  -- a frame that is not opened changes nothing for the next
-  pub refused-tells : taken (ans cs once) ≡ false → (k : Layer) (e : List ℕ) (u : ℕ) (p : List ℕ) → Octets e
-      → taken (ans (once ∷ cs) (opening k e u p)) ≡ taken (ans cs (opening k e u p))
-  refused-tells q k e u p oct =
-      meets (once ∷ cs) k e u p oct
-      ∙ ap (λ (t : Bool). opensAfter m ((if t then hearing (story ans cs) l (readAt l f g) else nothing) ∷ story ans cs) k e u p) q
-      ∙ after-still m (story ans cs) k e u p ∙ sym (meets cs k e u p oct)
+  -- the frame is not unsecured
+  opened-is : (cs : List Call) (l : Layer) (f : List ℕ) (g : ℕ) (o : List ℕ) → Octets f → ((n : ℕ) → readAt l f g ≡ plain n → ⊥)
+      → not (refuses (board cs (opening l f g o))) ≡ passes m (story (exchanges board cs)) l f g o
+  opened-is cs l f g o octets ne = go (readAt l f g) refl (meets cs l f g o octets)
+    where
+      go : (r : Reading) → readAt l f g ≡ r → Rightly r (board cs (opening l f g o)) (passes m (story (exchanges board cs)) l f g o)
+          → not (refuses (board cs (opening l f g o))) ≡ passes m (story (exchanges board cs)) l f g o
+      go (secured s) e t = t
+      go (refused n) e t = t
+      go (plain n) e t = absurd (ne n e)
 
--- ---- of our board: a refused opening leaves state and lists as they were, so nothing at all is changed for any later call
+  -- leaves what may be opened as it was: whatever calls follow, as long as they are answered as they would have been without it,
+  -- the next frame that is not unsecured is opened just if it would have been
+  pub refused-leaves : (cs : List Call) (l : Layer) (f : List ℕ) (g : ℕ) (o : List ℕ) → refuses (board cs (opening l f g o)) ≡ true
+      → (ds : List Call) → later board ds (opening l f g o ∷ cs) ≡ later board ds cs
+      → (k : Layer) (e : List ℕ) (a : ℕ) (p : List ℕ) → Octets e → ((n : ℕ) → readAt k e a ≡ plain n → ⊥)
+      → refuses (board (ds ++ (opening l f g o ∷ cs)) (opening k e a p)) ≡ refuses (board (ds ++ cs) (opening k e a p))
+  refused-leaves cs l f g o turned ds alike k e a p octets ne =
+      not-back _ _ (opened-is (ds ++ (opening l f g o ∷ cs)) k e a p octets ne
+      ∙ ap (λ (h : List Event). passes m h k e a p) stories ∙ sym (opened-is (ds ++ cs) k e a p octets ne))
+      ∙ not-twice (refuses (board (ds ++ cs) (opening k e a p)))
+    where
+      not-twice : (t : Bool) → not (not t) ≡ t
+      not-twice true = refl
+      not-twice false = refl
+
+      told-nothing : story (exchanges board (opening l f g o ∷ cs)) ≡ story (exchanges board cs)
+      told-nothing = rw turned refl
+
+      stories : story (exchanges board (ds ++ (opening l f g o ∷ cs))) ≡ story (exchanges board (ds ++ cs))
+      stories =
+          story-since board ds (opening l f g o ∷ cs)
+          ∙ ap (λ (h : List Event). since (later board ds (opening l f g o ∷ cs)) h ++ h) told-nothing
+          ∙ ap (λ (xs : List Exchange). since xs (story (exchanges board cs)) ++ story (exchanges board cs)) alike
+          ∙ sym (story-since board ds cs)
+
+  -- ---- wrong boards
+
+  -- one that opens a secured frame and gives the same reply to it again, as a board does that never raises a floor
+  pub never-repeats : (cs : List Call) (l : Layer) (f : List ℕ) (g : ℕ) (o : List ℕ) (s : Secured) → Octets f → readAt l f g ≡ secured s
+      → refuses (board cs (opening l f g o)) ≡ false → board (opening l f g o ∷ cs) (opening l f g o) ≡ board cs (opening l f g o) → ⊥
+  unfolding slotFor
+  never-repeats cs l f g o s octets read first again =
+      clash (stale-refused (opening l f g o ∷ cs) l f g o s octets read
+      (ap (λ (y : Holder). aboveAll (s .sender) (s .counter) (heardIn (story (exchanges board (opening l f g o ∷ cs))) y)) place
+      ∙ not-above cs l f g o s octets read first)) (ap refuses again ∙ first)
+    where
+      place : holderFor (story (exchanges board (opening l f g o ∷ cs))) l s ≡ holderFor (story (exchanges board cs)) l s
+      place = go l first read
+        where
+          go : (l : Layer) → refuses (board cs (opening l f g o)) ≡ false → readAt l f g ≡ secured s
+              → holderFor (story (exchanges board (opening l f g o ∷ cs))) l s ≡ holderFor (story (exchanges board cs)) l s
+          go Network q r = rw (q, r) refl
+          go Aps q r = refl
+
+  -- a frame that was sealed under a key that is there is opened, where its counter is new, its sender finds room and the output
+  -- has room
+  pub sealed-opens : (cs : List Call) (l : Layer) (k : List ℕ) (q c n a : ℕ) (f : List ℕ) (i g : ℕ) (o j : List ℕ) (y : ℕ) → ToSeal l f i c n a
+      → Octets k → q < 256 → longest ≤ length o → length f + sentOctets c + 4 ≤ longestAt l
+      → let h = story (exchanges board cs) in
+      keyIn h (holderFor h l (announcing i c n a q)) ≡ key y j → keyAt l (announcing i c n a q) j ≡ k → n < top
+      → aboveAll a n (heardIn h (holderFor h l (announcing i c n a q))) ≡ true → room m h (holderFor h l (announcing i c n a q)) a ≡ true
+      → refuses (board cs (opening l (sealedFrame k l c n a q f i) g o)) ≡ false
+  unfolding passes passesRead passesUnder genuine
+  sealed-opens cs l k q c n a f i g o j y p ok oq ro so ek sk nt ab rm =
+      not-back (refuses (board cs (opening l (sealedFrame k l c n a q f i) g o))) true
+      (opened-so cs l (sealedFrame k l c n a q f i) g o (announcing i c n a q) (octets-again k q p ok oq) read ∙ pass)
+    where
+      read : readAt l (sealedFrame k l c n a q f i) g ≡ secured (announcing i c n a q)
+      read = read-same l (sealedFrame k l c n a q f i) g ∙ read-again k q p g
+
+      pass : passes m (story (exchanges board cs)) l (sealedFrame k l c n a q f i) g o ≡ true
+      pass =
+          simp (
+            le-leb longest (length o) ro,
+            le-leb (length (sealedFrame k l c n a q f i)) (longestAt l) (omega (arith, length-again k q p)),
+            read,
+            ek,
+            lt-ltb n top nt,
+            ab,
+            sk,
+            message-again k q p,
+            rm,
+          )
+
+  -- so a board that took a network key and then refuses a first frame sealed under it does not meet the statement
+  pub installed-opens : (k : List ℕ) (q n a : ℕ) (f : List ℕ) (i g : ℕ) (o : List ℕ) → 0 < m → refuses (board [] (install 0 q k)) ≡ false
+      → ToSeal Network f i 1 n a → Octets k → q < 256 → longest ≤ length o → length f + sentOctets 1 + 4 ≤ longest → n < top
+      → refuses (board (install 0 q k ∷ []) (opening Network (sealedFrame k Network 1 n a q f i) g o)) ≡ false
+  unfolding slotFor firstAt
+  installed-opens k q n a f i g o mp took p ok oq ro so nt =
+      sealed-opens (install 0 q k ∷ []) Network k q 1 n a f i g o k q p ok oq ro so
+      (rw (took, eq-eqb q q refl) refl) refl nt (rw (took, eq-eqb q q refl) refl) (rw (took, eq-eqb q q refl) (lt-ltb 0 m mp))
+
+-- ---- of ours: a refused frame might as well not have come
 
 module _ (m : ℕ) (x : Held) (f : List ℕ) (g : ℕ) (o : List ℕ) where
-  opened-not : {A : Type 0} (n k a : ℕ) (p q : List ℕ) (u : Guard) → gave (opened k a u) p ≡ gave (turnedDown n) q → A
-  opened-not n k a p q u e = let z : _≡_ {A = ℕ} 0 1 = cc in absurd (omega arith)
-
-  refused-leaves : (l : Layer) (n : ℕ) (q : List ℕ) → step m (opening l f g o) x .reply ≡ gave (turnedDown n) q → step m (opening l f g o) x .after ≡ x
-  refused-leaves Network n q =
+  refused-stays : (l : Layer) → refuses (step m (opening l f g o) x .reply) ≡ true → step m (opening l f g o) x .after ≡ x
+  refused-stays Network =
       network-ways m (x .board) f (x .addrs) (x .floors) o
-      (λ (r : network.Opening). byNetwork x r .reply ≡ gave (turnedDown n) q → byNetwork x r .after ≡ x) (λ k e. refl) (λ p e. refl)
-      (λ s i r k p t e. opened-not n k (s .sender) p q (Under 1) e)
-  refused-leaves Aps n q =
-      aps-ways (x .board) f g o (λ (r : aps.Opening). byAps x r .reply ≡ gave (turnedDown n) q → byAps x r .after ≡ x) (λ k e. refl) (λ p e. refl)
-      (λ s i k p t e. opened-not n k (s .sender) p q (Under (identifierOf (s .control))) e)
+      (λ (r : network.Opening). refuses (byNetwork x r .reply) ≡ true → byNetwork x r .after ≡ x) (λ k e. refl) (λ k p q e. refl)
+      (λ s i r k p t e. clash e refl)
+  refused-stays Aps =
+      aps-ways (x .board) f g o (λ (r : aps.Opening). refuses (byAps x r .reply) ≡ true → byAps x r .after ≡ x) (λ k e. refl) (λ k p q e. refl)
+      (λ s i k p t e. clash e refl)
 
--- a forged frame (9), or one that is refused for any other cause, might as well not have come
-pub forged-changes-nothing : (m own : ℕ) (cs : List Call) (l : Layer) (f : List ℕ) (g : ℕ) (o q : List ℕ) (n : ℕ)
-    → answers m own cs (opening l f g o) ≡ gave (turnedDown n) q
-    → (ds : List Call) → run m own (ds ++ (opening l f g o ∷ cs)) ≡ run m own (ds ++ cs)
-forged-changes-nothing m own cs l f g o q n e [] = refused-leaves m (run m own cs) f g o l n q e
-forged-changes-nothing m own cs l f g o q n e (d ∷ ds) =
-    ap (λ (x : Held). step m d x .after) (forged-changes-nothing m own cs l f g o q n e ds)
+module _ (m own : ℕ) (cs : List Call) (l : Layer) (f : List ℕ) (g : ℕ) (o : List ℕ)
+    (turned : refuses (replies m own cs (opening l f g o)) ≡ true) where
+  leaves-all : (ds : List Call) → run m own (ds ++ (opening l f g o ∷ cs)) ≡ run m own (ds ++ cs)
+  leaves-all [] = refused-stays m (run m own cs) f g o l turned
+  leaves-all (d ∷ ds) = ap (λ (x : Held). step m d x .after) (leaves-all ds)
 
-pub forged-answers : (m own : ℕ) (cs : List Call) (l : Layer) (f : List ℕ) (g : ℕ) (o q : List ℕ) (n : ℕ)
-    → answers m own cs (opening l f g o) ≡ gave (turnedDown n) q
-    → (ds : List Call) (d : Call) → answers m own (ds ++ (opening l f g o ∷ cs)) d ≡ answers m own (ds ++ cs) d
-forged-answers m own cs l f g o q n e ds d = ap (λ (x : Held). step m d x .reply) (forged-changes-nothing m own cs l f g o q n e ds)
-
--- ---- a frame that was sealed is opened, where the key is there and document 01's other checks pass: a board that refuses all
--- does not meet the statement
-
-pub sealed-opens : (m : ℕ) (h : List Event) (l : Layer) (k : List ℕ) (q c n a : ℕ) (f : List ℕ) (i g : ℕ) (o j : List ℕ) (y : ℕ) → ToSeal l f i c n a
-    → longest ≤ length o → length f + sentOctets c + 4 ≤ longestAt l
-    → keyIn h (holderFor h l (announcing i c n a q)) ≡ key y j → keyAt l (announcing i c n a q) j ≡ k → n < top
-    → aboveAll n (openedIn h (holderFor h l (announcing i c n a q)) a) ≡ true → room m h (holderFor h l (announcing i c n a q)) a ≡ true
-    → opensAfter m h l (sealedFrame k l c n a q f i) g o ≡ true
-unfolding opensAfter opensRead opensUnder genuine
-sealed-opens m h l k q c n a f i g o j y p ro so ek sk nt ab rm =
-    simp (
-      le-leb longest (length o) ro,
-      le-leb (length (sealedFrame k l c n a q f i)) (longestAt l) (omega (arith, length-again k q p)),
-      read-same l (sealedFrame k l c n a q f i) g ∙ read-again k q p g,
-      ek,
-      lt-ltb n top nt,
-      ab,
-      sk,
-      message-again k q p,
-      rm,
-    )
+  -- forged (9), or refused for any other cause
+  pub forged-changes-nothing : (ds : List Call) (d : Call) → replies m own (ds ++ (opening l f g o ∷ cs)) d ≡ replies m own (ds ++ cs) d
+  forged-changes-nothing ds d = ap (λ (x : Held). step m d x .reply) (leaves-all ds)

@@ -13,7 +13,7 @@ use lib.Seq.{getD-set-same, getD-set-other}
 use borrow.Author.Tests.{eqb-true, eq-eqb, not-true}
 use Rattle.octets.specs.Choice.{if_then_else_, both}
 use Rattle.octets.proofs.Tabs.{getD-tab}
-use Rattle.history.specs.Told.{Key, none, key}
+use Rattle.history.specs.Events.{Key, none, key}
 use Rattle.history.proofs.Searches.{same-or, clash, first-ext, first-only, first-nowhere}
 use Rattle.history.proofs.Counters.{bound}
 use Rattle.history.proofs.Senders.{pick-same, pick-else}

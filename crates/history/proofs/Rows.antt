@@ -11,9 +11,8 @@ use lib.Dec.{eqb}
 use lib.ListN.{length, getD, set, length-set, replicate, length-replicate, getD-replicate}
 use lib.Seq.{getD-set-same, getD-set-other}
 use borrow.Author.Tests.{eqb-true, ne-eqb}
-use Rattle.history.specs.Told.{member}
 use Rattle.history.proofs.Searches.{same-or, first-ext, first-nowhere, bit, count, count-ext, count-none, count-change}
-use Rattle.history.proofs.Counters.{bound, Distinct, no-one}
+use Rattle.history.proofs.Counters.{bound, member, Distinct, no-one}
 use Rattle.board.specs.declared.Place.{Place}
 use Rattle.board.specs.declared.Place.the-variants.{At, Absent}
 use Rattle.board.specs.Places.{firstAt}
@@ -60,6 +59,20 @@ pub record Rows (m : ℕ) (al fl : List ℕ) (opened : ℕ → ℕ → List ℕ)
   pub known : (i a : ℕ) → i < 2 → (a ≡ 0 → ⊥) → there (placeOf m al i a) ≡ member a (senders i)
   pub used : (i : ℕ) → i < 2 → count (inUse al) (i * m) m ≡ length (senders i)
   pub distinct : (i : ℕ) → i < 2 → Distinct (senders i)
+
+-- what is told of the senders may be said in other words
+pub rows-ext : {m : ℕ} {al fl : List ℕ} {opened opened' : ℕ → ℕ → List ℕ} {senders senders' : ℕ → List ℕ} → Rows m al fl opened senders
+    → ((i a : ℕ) → opened i a ≡ opened' i a) → ((i : ℕ) → senders i ≡ senders' i) → Rows m al fl opened' senders'
+rows-ext w p q =
+    record {
+      addrs = w .addrs;
+      floors = w .floors;
+      once = w .once;
+      floor = λ i a h ne. w .floor i a h ne ∙ ap bound (p i a);
+      known = λ i a h ne. w .known i a h ne ∙ ap (member a) (q i);
+      used = λ i h. w .used i h ∙ ap length (q i);
+      distinct = λ i h. rw (← q i) (w .distinct i h);
+    }
 
 -- ---- fresh lists
 

@@ -11,9 +11,8 @@ use lib.ListN.{length, getD, set}
 use lib.Seq.{getD-set-same, getD-set-other}
 use borrow.Author.Tests.{eqb-true, eqb-false, eq-eqb, ne-eqb, lt-ltb, le-ltb}
 use Rattle.octets.specs.Choice.{if_then_else_, both}
-use Rattle.history.specs.Told.{member, without}
 use Rattle.history.proofs.Searches.{same-or, first-ext, first-only, first-nowhere, bit, count-ext, count-none, count-all, count-less}
-use Rattle.history.proofs.Counters.{bound, bound-more, Distinct, no-one, one-more, member-without, member-other, distinct-without, length-without}
+use Rattle.history.proofs.Counters.{bound, bound-more, member, less, Distinct, no-one, one-more, member-less, member-other, distinct-less, length-less}
 use Rattle.history.proofs.Freed.{freed-in, freed-out}
 use Rattle.history.proofs.Rows.{In, slot-apart, slot-within, rowIs, inUse, placeOf, there, Rows, Mine, row-changes}
 use Rattle.board.specs.declared.Place.{Place}
@@ -108,16 +107,16 @@ module _ (m : ℕ) {al fl : List ℕ} {opened : ℕ → ℕ → List ℕ} {sende
 
     pub hear-rows : (r n : ℕ) → rowFor m al i a ≡ At r → bound (opened i a) ≤ n
         → Rows m (set al r a) (set fl r (n + 1)) (λ j b. if both (eqb i j) (eqb a b) then n ∷ opened j b else opened j b)
-        (λ j. if eqb i j then a ∷ without a (senders j) else senders j)
+        (λ j. if eqb i j then a ∷ less a (senders j) else senders j)
     hear-rows r n e h =
         row-changes m w i r a a (n + 1) i< (t .within) az (t .was) (inl refl) (t .others) opened' senders'
         (λ j b el. both-else i j a b (n ∷ opened j b) (opened j b) el)
         (ap (floorAt (set fl r (n + 1))) place ∙ getD-set-same fl r (n + 1) 0 (omega (arith, in-floors)) ∙ sym (bound-more n (opened i a) h)
         ∙ ap bound (sym (both-same i a (n ∷ opened i a) (opened i a))))
         elsewhere
-        (ap there place ∙ sym (ap (member a) (pick-same i (a ∷ without a (senders i)) (senders i)) ∙ pick-same a true (member a (without a (senders i)))))
-        (λ j ne. ap length (pick-else i j (a ∷ without a (senders j)) (senders j) ne))
-        (omega (arith, ap length (pick-same i (a ∷ without a (senders i)) (senders i)), length-without a (senders i) (w .distinct i i<), ap bit (t .uses), ap bit now-used))
+        (ap there place ∙ sym (ap (member a) (pick-same i (a ∷ less a (senders i)) (senders i)) ∙ pick-same a true (member a (less a (senders i)))))
+        (λ j ne. ap length (pick-else i j (a ∷ less a (senders j)) (senders j) ne))
+        (omega (arith, ap length (pick-same i (a ∷ less a (senders i)) (senders i)), length-less a (senders i) (w .distinct i i<), ap bit (t .uses), ap bit now-used))
         alone
       where
         t : Takes r
@@ -127,7 +126,7 @@ module _ (m : ℕ) {al fl : List ℕ} {opened : ℕ → ℕ → List ℕ} {sende
         opened' = λ j b. if both (eqb i j) (eqb a b) then n ∷ opened j b else opened j b
 
         senders' : ℕ → List ℕ
-        senders' = λ j. if eqb i j then a ∷ without a (senders j) else senders j
+        senders' = λ j. if eqb i j then a ∷ less a (senders j) else senders j
 
         in-floors : r < length fl
         in-floors = omega (arith, slot-within m i i<, w .floors, t .within)
@@ -147,32 +146,32 @@ module _ (m : ℕ) {al fl : List ℕ} {opened : ℕ → ℕ → List ℕ} {sende
         elsewhere : (j b : ℕ) → (j ≡ i → b ≡ a → ⊥) → member b (senders' j) ≡ member b (senders j)
         elsewhere j b el = go (eqb i j) refl
           where
-            go : (u : Bool) → eqb i j ≡ u → member b (if u then a ∷ without a (senders j) else senders j) ≡ member b (senders j)
+            go : (u : Bool) → eqb i j ≡ u → member b (if u then a ∷ less a (senders j) else senders j) ≡ member b (senders j)
             go true f =
                 let ne : b ≡ a → ⊥ = el (sym (eqb-true i j f)) in
-                pick-else a b true (member b (without a (senders j))) ne ∙ member-other a b (senders j) (λ g. ne (sym g))
+                pick-else a b true (member b (less a (senders j))) ne ∙ member-other a b (senders j) (λ g. ne (sym g))
             go false f = refl
 
         alone : (j : ℕ) → j < 2 → Distinct (senders' j)
         alone j j< = go (eqb i j)
           where
-            go : (u : Bool) → Distinct (if u then a ∷ without a (senders j) else senders j)
-            go true = one-more (member-without a (senders j)) (distinct-without a (senders j) (w .distinct j j<))
+            go : (u : Bool) → Distinct (if u then a ∷ less a (senders j) else senders j)
+            go true = one-more (member-less a (senders j)) (distinct-less a (senders j) (w .distinct j j<))
             go false = w .distinct j j<
 
     -- ---- forgotten
 
     pub lose-rows : (r : ℕ) → placeOf m al i a ≡ At r
         → Rows m (set al r 0) (set fl r 0) (λ j b. if both (eqb i j) (eqb a b) then [] else opened j b)
-        (λ j. if eqb i j then without a (senders j) else senders j)
+        (λ j. if eqb i j then less a (senders j) else senders j)
     lose-rows r e =
         row-changes m w i r a 0 0 i< (t .within) az (t .was) (inr refl) (t .others) opened' senders'
         (λ j b el. both-else i j a b [] (opened j b) el)
         (ap (floorAt (set fl r 0)) place ∙ ap bound (sym (both-same i a [] (opened i a))))
         elsewhere
-        (ap there place ∙ sym (ap (member a) (pick-same i (without a (senders i)) (senders i)) ∙ member-without a (senders i)))
-        (λ j ne. ap length (pick-else i j (without a (senders j)) (senders j) ne))
-        (omega (arith, ap length (pick-same i (without a (senders i)) (senders i)), length-without a (senders i) (w .distinct i i<), ap bit (t .uses), ap bit now-free))
+        (ap there place ∙ sym (ap (member a) (pick-same i (less a (senders i)) (senders i)) ∙ member-less a (senders i)))
+        (λ j ne. ap length (pick-else i j (less a (senders j)) (senders j) ne))
+        (omega (arith, ap length (pick-same i (less a (senders i)) (senders i)), length-less a (senders i) (w .distinct i i<), ap bit (t .uses), ap bit now-free))
         alone
       where
         t : Takes r
@@ -182,7 +181,7 @@ module _ (m : ℕ) {al fl : List ℕ} {opened : ℕ → ℕ → List ℕ} {sende
         opened' = λ j b. if both (eqb i j) (eqb a b) then [] else opened j b
 
         senders' : ℕ → List ℕ
-        senders' = λ j. if eqb i j then without a (senders j) else senders j
+        senders' = λ j. if eqb i j then less a (senders j) else senders j
 
         now-is : getD (set al r 0) r 0 ≡ 0
         now-is = getD-set-same al r 0 0 (omega (arith, slot-within m i i<, w .addrs, t .within))
@@ -199,15 +198,15 @@ module _ (m : ℕ) {al fl : List ℕ} {opened : ℕ → ℕ → List ℕ} {sende
         elsewhere : (j b : ℕ) → (j ≡ i → b ≡ a → ⊥) → member b (senders' j) ≡ member b (senders j)
         elsewhere j b el = go (eqb i j) refl
           where
-            go : (u : Bool) → eqb i j ≡ u → member b (if u then without a (senders j) else senders j) ≡ member b (senders j)
+            go : (u : Bool) → eqb i j ≡ u → member b (if u then less a (senders j) else senders j) ≡ member b (senders j)
             go true f = member-other a b (senders j) (λ g. el (sym (eqb-true i j f)) (sym g))
             go false f = refl
 
         alone : (j : ℕ) → j < 2 → Distinct (senders' j)
         alone j j< = go (eqb i j)
           where
-            go : (u : Bool) → Distinct (if u then without a (senders j) else senders j)
-            go true = distinct-without a (senders j) (w .distinct j j<)
+            go : (u : Bool) → Distinct (if u then less a (senders j) else senders j)
+            go true = distinct-less a (senders j) (w .distinct j j<)
             go false = w .distinct j j<
 
   -- ---- the rows of the slot are freed

@@ -13,7 +13,7 @@ use borrow.Author.Tests.{eqb-true}
 use Rattle.octets.specs.Choice.{if_then_else_, both}
 use Rattle.octets.specs.Lists.{eqList}
 use Rattle.octets.proofs.Tabs.{getD-tab}
-use Rattle.history.specs.Told.{Key, none, key, numbered, sameKey}
+use Rattle.history.specs.Events.{Key, none, key, numbered, sameKey}
 use Rattle.history.proofs.Searches.{same-or, clash, first-ext}
 use Rattle.history.proofs.Senders.{pick-same, pick-else}
 use Rattle.board.specs.declared.Slot.{Slot}
@@ -32,7 +32,7 @@ unfolding carries
 keeps-number s none n w = ap (λ (t : Bool). both t (eqb (s .seq) n)) w
 keeps-number s (key q k) n w = ap₂ (λ (t : Bool) (y : ℕ). both t (eqb y n)) (w .0) (w .1)
 
-pub keeps-same : (s : Slot) (x : Key) (n : ℕ) (k : List ℕ) → Keeps s x → holds s n k ≡ sameKey x n k
+pub keeps-same : (s : Slot) (x : Key) (n : ℕ) (k : List ℕ) → Keeps s x → holds s n k ≡ sameKey x (key n k)
 unfolding holds carries
 keeps-same s none n k w = ap (λ (t : Bool). both (both t (eqb (s .seq) n)) (eqList (s .key) k)) w
 keeps-same s (key q j) n k w =

@@ -2,23 +2,24 @@
 -- Assumes nothing.
 use mathlib.Core.Path.{_≡_, refl, sym, subst, ap, _∙_}
 use mathlib.Core.Bool.{Bool, true, false, not}
-use mathlib.Core.List.{List, [], _∷_}
+use mathlib.Core.List.{List, [], _∷_, _++_}
 use Prim.Native.Nat.{ℕ, _+_, _-_, _*_, _<_, _≤_}
 use native.Mathlib.Omega.{arith}
 use lib.Dec.{eqb, ltb}
-use lib.ListN.{set}
+use lib.ListN.{set, take}
 use borrow.Author.Tests.{eqb-true, eqb-false, ltb-false}
 use Rattle.octets.proofs.Choices.{choose}
 use Rattle.octets.specs.Addresses.{noAddress}
 use Rattle.octets.specs.Choice.{if_then_else_, both}
 use Rattle.octets.specs.Lists.{eqList}
 use Rattle.history.specs.Calls.{Call, install, switch, addLink, removeLink, forget, opening, sealing, looking, writing}
-use Rattle.history.specs.Told.{Event, Key, slot, link, installed, nothing, key, none, keyIn, sameKey, slotFor, openedIn, sendersIn}
-use Rattle.history.specs.Story.{installing, hearing, sending, eventOf, readAt, story}
-use Rattle.history.specs.Running.{Held, held, byLists, byBoard, byRows, byNetwork, byAps, bySeal, step, start, run, answers}
+use Rattle.history.specs.Calls.{handedOut, exchanges}
+use Rattle.history.specs.Events.{Event, Key, Heard, slot, link, keyed, key, none, keyIn, sameKey, slotFor, without, heardIn}
+use Rattle.history.specs.Story.{installing, hearing, eventsOf, readAt, story}
+use Rattle.history.specs.Running.{Held, held, byLists, byBoard, byRows, byNetwork, byAps, bySeal, step, start, run, replies}
 use Rattle.history.proofs.Searches.{clash}
-use Rattle.history.proofs.Counters.{bound, bound-more}
-use Rattle.history.proofs.Rows.{Rows, zeroes, rows-fresh}
+use Rattle.history.proofs.Counters.{bound, bound-more, counters, less, names, names-without, counters-gone, counters-other}
+use Rattle.history.proofs.Rows.{Rows, zeroes, rows-ext, rows-fresh}
 use Rattle.history.proofs.Senders.{row-there, hear-rows, lose-rows, clear-rows}
 use Rattle.history.proofs.Slots.{Slots, slots-fresh, keeps-same, slot-told, install-slot}
 use Rattle.history.proofs.Links.{Links, Tells, pairsAt, links-fresh, links-ext, pair-mine, pair-other, pair-free, Mine, mine, free, entry-put, entry-gone}
@@ -48,8 +49,8 @@ use Rattle.aps.specs.Opening as aps
 
 pub record Stands (m : ℕ) (x : Held) (h : List Event) : Type 0 where
   pub slots : Slots (x .board .slots) (λ i. keyIn h (slot i))
-  pub rows : Rows m (x .addrs) (x .floors) (λ i a. openedIn h (slot i) a) (λ i. sendersIn h (slot i))
-  pub links : Links (x .board .links) (λ a. keyIn h (link a)) (λ a. openedIn h (link a) a)
+  pub rows : Rows m (x .addrs) (x .floors) (λ i a. counters a (heardIn h (slot i))) (λ i. names (heardIn h (slot i)))
+  pub links : Links (x .board .links) (λ a. keyIn h (link a)) (λ a. counters a (heardIn h (link a)))
 
 pub stands-fresh : (m own : ℕ) → Stands m (start m own) []
 unfolding make
@@ -60,6 +61,11 @@ stands-fresh m own = choose P (noAddress own) _ _ (λ _. fresh-so 0) (λ _. fres
 
     fresh-so : (a : ℕ) → Stands m (held (fresh a) (zeroes (2 * m)) (zeroes (2 * m))) []
     fresh-so a = record { slots = slots-fresh a; rows = rows-fresh m; links = links-fresh a }
+
+-- a function of a choice
+pick-over : {A B : Type 0} (f : A → B) (t : Bool) (x y : A) → (if t then f x else f y) ≡ f (if t then x else y)
+pick-over f true x y = refl
+pick-over f false x y = refl
 
 -- nobody's address is no sender's
 pub sender-some : (l : Layer) (f : List ℕ) (g : ℕ) (s : Secured) → readAt l f g ≡ secured s → s .sender ≡ 0 → ⊥
@@ -73,112 +79,130 @@ module _ (m : ℕ) (x : Held) (h : List Event) (w : Stands m x h) where
   abbrev b : Board
   b = x .board
 
-  -- a call that tells nothing leaves all as it was
-  pub still : Stands m x (nothing ∷ h)
-  still = record { slots = w .slots; rows = w .rows; links = w .links }
-
   -- ---- network keys
 
-  pub stands-install : (i n : ℕ) (k : List ℕ) → Stands m (step m (install i n k) x .after) (eventOf h (install i n k) (step m (install i n k) x .reply) ∷ h)
+  pub stands-install : (i n : ℕ) (k : List ℕ) → Stands m (step m (install i n k) x .after) (eventsOf h (install i n k) (step m (install i n k) x .reply) ++ h)
   unfolding requests.install
   stands-install i n k =
-      choose P (not (listsFit m (x .addrs) (x .floors))) _ _ (λ _. still) λ _.
-      choose P (ltb 1 i) _ _ (λ _. still) λ e.
-      choose P (carries (slotAt (b .slots) (1 - i)) n) _ _ (λ _. still) λ _.
+      choose P (not (listsFit m (x .addrs) (x .floors))) _ _ (λ _. w) λ _.
+      choose P (ltb 1 i) _ _ (λ _. w) λ e.
+      choose P (carries (slotAt (b .slots) (1 - i)) n) _ _ (λ _. w) λ _.
       choose P (holds (slotAt (b .slots) i) n k) _ _ (λ f. again (ltb-false 1 i e) f) (λ f. anew (ltb-false 1 i e) f)
     where
       P : Left → Type 0
-      P r = Stands m (byLists r .after) (eventOf h (install i n k) (byLists r .reply) ∷ h)
+      P r = Stands m (byLists r .after) (eventsOf h (install i n k) (byLists r .reply) ++ h)
 
-      told : i ≤ 1 → holds (slotAt (b .slots) i) n k ≡ sameKey (keyIn h (slot i)) n k
+      told : i ≤ 1 → holds (slotAt (b .slots) i) n k ≡ sameKey (keyIn h (slot i)) (key n k)
       told l = keeps-same (slotAt (b .slots) i) (keyIn h (slot i)) n k (w .slots .keeps i (omega arith))
 
-      again : i ≤ 1 → holds (slotAt (b .slots) i) n k ≡ true → Stands m x (installing h (slot i) n k ∷ h)
-      again l f = rw (sym (told l) ∙ f) still
+      again : i ≤ 1 → holds (slotAt (b .slots) i) n k ≡ true → Stands m x (installing h (slot i) (key n k) ++ h)
+      again l f = rw (sym (told l) ∙ f) w
 
-      put : i < 2 → Stands m (held (withSlot b i (requests.installed n k)) (freed (x .addrs) (i * m) m) (freed (x .floors) (i * m) m)) (installed (slot i) n k ∷ h)
+      put : i < 2 → Stands m (held (withSlot b i (requests.installed n k)) (freed (x .addrs) (i * m) m) (freed (x .floors) (i * m) m)) (keyed (slot i) (key n k) ∷ h)
       put l =
           record {
             slots = install-slot (w .slots) i n k l;
-            rows = clear-rows m (w .rows) i l;
+            rows = rows-ext (clear-rows m (w .rows) i l) (λ j b. pick-over (counters b) (eqb i j) [] (heardIn h (slot j)))
+                (λ j. pick-over names (eqb i j) [] (heardIn h (slot j)));
             links = w .links;
           }
 
       anew : i ≤ 1 → holds (slotAt (b .slots) i) n k ≡ false
-          → Stands m (held (withSlot b i (requests.installed n k)) (freed (x .addrs) (i * m) m) (freed (x .floors) (i * m) m)) (installing h (slot i) n k ∷ h)
+          → Stands m (held (withSlot b i (requests.installed n k)) (freed (x .addrs) (i * m) m) (freed (x .floors) (i * m) m)) (installing h (slot i) (key n k) ++ h)
       anew l f = rw (sym (told l) ∙ f) (put (omega arith))
 
-  pub stands-switch : (n : ℕ) → Stands m (step m (switch n) x .after) (nothing ∷ h)
+  pub stands-switch : (n : ℕ) → Stands m (step m (switch n) x .after) (eventsOf h (switch n) (step m (switch n) x .reply) ++ h)
   unfolding requests.switch
   stands-switch n = go (slotOf (b .slots) n)
     where
-      go : (p : Place) → Stands m (byBoard x (requests.switchTo b p) .after) (nothing ∷ h)
+      go : (p : Place) → Stands m (byBoard x (requests.switchTo b p) .after) (eventsOf h (switch n) (byBoard x (requests.switchTo b p) .reply) ++ h)
       go (At i) = record { slots = w .slots; rows = w .rows; links = w .links }
-      go Absent = still
+      go Absent = w
 
-  pub stands-forget : (i a : ℕ) → Stands m (step m (forget i a) x .after) (eventOf h (forget i a) (step m (forget i a) x .reply) ∷ h)
+  pub stands-forget : (i a : ℕ) → Stands m (step m (forget i a) x .after) (eventsOf h (forget i a) (step m (forget i a) x .reply) ++ h)
   unfolding requests.forget
   stands-forget i a =
-      choose P (not (listsFit m (x .addrs) (x .floors))) _ _ (λ _. still) λ _.
-      choose P (ltb 1 i) _ _ (λ _. still) λ e.
-      choose P (eqb a 0) _ _ (λ _. still) λ f.
+      choose P (not (listsFit m (x .addrs) (x .floors))) _ _ (λ _. w) λ _.
+      choose P (ltb 1 i) _ _ (λ _. w) λ e.
+      choose P (eqb a 0) _ _ (λ _. w) λ f.
       go (ltb-false 1 i e) (eqb-false a 0 f) (findRow (x .addrs) (i * m) m a) refl
     where
+      lost : (j c : ℕ) → (if both (eqb i j) (eqb a c) then [] else counters c (heardIn h (slot j)))
+          ≡ counters c (if eqb i j then without a (heardIn h (slot j)) else heardIn h (slot j))
+      lost j c = by (eqb i j) (eqb a c) refl
+        where
+          by : (t u : Bool) → eqb a c ≡ u → (if both t u then [] else counters c (heardIn h (slot j)))
+              ≡ counters c (if t then without a (heardIn h (slot j)) else heardIn h (slot j))
+          by true true f = sym (ap (λ (y : ℕ). counters y (without a (heardIn h (slot j)))) (sym (eqb-true a c f)) ∙ counters-gone a (heardIn h (slot j)))
+          by true false f = sym (counters-other a c (heardIn h (slot j)) (eqb-false a c f))
+          by false u f = refl
+
+      gone : (j : ℕ) → (if eqb i j then less a (names (heardIn h (slot j))) else names (heardIn h (slot j)))
+          ≡ names (if eqb i j then without a (heardIn h (slot j)) else heardIn h (slot j))
+      gone j = by (eqb i j)
+        where
+          by : (t : Bool) → (if t then less a (names (heardIn h (slot j))) else names (heardIn h (slot j)))
+              ≡ names (if t then without a (heardIn h (slot j)) else heardIn h (slot j))
+          by true = sym (names-without a (heardIn h (slot j)))
+          by false = refl
+
       P : Freed → Type 0
-      P r = Stands m (byRows x r .after) (eventOf h (forget i a) (byRows x r .reply) ∷ h)
+      P r = Stands m (byRows x r .after) (eventsOf h (forget i a) (byRows x r .reply) ++ h)
 
       go : i ≤ 1 → (a ≡ 0 → ⊥) → (p : Place) → findRow (x .addrs) (i * m) m a ≡ p → P (requests.forgetAt (x .addrs) (x .floors) p)
       go l az (At r) e =
           let i< : i < 2 = omega arith in
           record {
             slots = w .slots;
-            rows = lose-rows m (w .rows) i i< a az r (sym (row-there m (w .rows) i i< a) ∙ e);
+            rows = rows-ext (lose-rows m (w .rows) i i< a az r (sym (row-there m (w .rows) i i< a) ∙ e)) lost gone;
             links = w .links;
           }
-      go l az Absent e = still
+      go l az Absent e = w
 
   -- ---- link keys
 
-  pub stands-add : (a : ℕ) (k : List ℕ) → Stands m (step m (addLink a k) x .after) (eventOf h (addLink a k) (step m (addLink a k) x .reply) ∷ h)
+  pub stands-add : (a : ℕ) (k : List ℕ) → Stands m (step m (addLink a k) x .after) (eventsOf h (addLink a k) (step m (addLink a k) x .reply) ++ h)
   unfolding requests.addLink
-  stands-add a k = choose P (noAddress a) _ _ (λ _. still) λ _. place (linkOf (b .links) a) refl (w .links .tells a)
+  stands-add a k = choose P (noAddress a) _ _ (λ _. w) λ _. place (linkOf (b .links) a) refl (w .links .tells a)
     where
       P : Changed → Type 0
-      P r = Stands m (byBoard x r .after) (eventOf h (addLink a k) (byBoard x r .reply) ∷ h)
+      P r = Stands m (byBoard x r .after) (eventsOf h (addLink a k) (byBoard x r .reply) ++ h)
 
       now : pairs (added a k) a ≡ true
       now = pair-mine (added a k) a refl refl
 
       -- entry i is for the partner now
       put : (i : ℕ) → i < 8 → ((c : ℕ) → (c ≡ a → ⊥) → pairsAt (b .links) c i ≡ false)
-          → ((j : ℕ) → j < 8 → (j ≡ i → ⊥) → pairsAt (b .links) a j ≡ false) → sameKey (keyIn h (link a)) 0 k ≡ false
+          → ((j : ℕ) → j < 8 → (j ≡ i → ⊥) → pairsAt (b .links) a j ≡ false) → sameKey (keyIn h (link a)) (key 0 k) ≡ false
           → P (requests.changed done (withLink b i (added a k)))
       put i i< was others e =
           rw e
           (record {
             slots = w .slots;
             rows = w .rows;
-            links = entry-put (w .links) i a (added a k) i< was (λ c ne. pair-other (added a k) a c now ne) others k [] now refl refl;
+            links = links-ext
+                (entry-put (w .links) i a (added a k) i< was (λ c ne. pair-other (added a k) a c now ne) others k [] now refl refl)
+                (λ c. refl) (λ c. pick-over (counters c) (eqb a c) [] (heardIn h (link c)));
           })
 
       new : (p : Place) → freeLink (b .links) ≡ p → linkOf (b .links) a ≡ Absent → keyIn h (link a) ≡ none → P (requests.addNew b a k p)
-      new (At i) e f t = let g = free (w .links) a i f e in put i (g .0) (g .1) (g .2) (ap (λ (y : Key). sameKey y 0 k) t)
-      new Absent e f t = still
+      new (At i) e f t = let g = free (w .links) a i f e in put i (g .0) (g .1) (g .2) (ap (λ (y : Key). sameKey y (key 0 k)) t)
+      new Absent e f t = w
 
-      place : (p : Place) → linkOf (b .links) a ≡ p → Tells (b .links) p (keyIn h (link a)) (openedIn h (link a) a) → P (requests.addTo b a k p)
+      place : (p : Place) → linkOf (b .links) a ≡ p → Tells (b .links) p (keyIn h (link a)) (counters a (heardIn h (link a))) → P (requests.addTo b a k p)
       place (At i) e t =
-          let told : sameKey (keyIn h (link a)) 0 k ≡ eqList (linkAt (b .links) i .key) k = ap (λ (y : Key). sameKey y 0 k) (t .0) in
+          let told : sameKey (keyIn h (link a)) (key 0 k) ≡ eqList (linkAt (b .links) i .key) k = ap (λ (y : Key). sameKey y (key 0 k)) (t .0) in
           let g = mine (w .links) a i e in
-          choose P (eqList (linkAt (b .links) i .key) k) _ _ (λ f. rw (told ∙ f) still)
+          choose P (eqList (linkAt (b .links) i .key) k) _ _ (λ f. rw (told ∙ f) w)
           (λ f. put i (g .low) (g .was) (g .others) (told ∙ f))
       place Absent e t = new (freeLink (b .links)) refl e t
 
-  pub stands-remove : (a : ℕ) → Stands m (step m (removeLink a) x .after) (eventOf h (removeLink a) (step m (removeLink a) x .reply) ∷ h)
+  pub stands-remove : (a : ℕ) → Stands m (step m (removeLink a) x .after) (eventsOf h (removeLink a) (step m (removeLink a) x .reply) ++ h)
   unfolding requests.removeLink
-  stands-remove a = choose P (eqb a 0) _ _ (λ _. still) λ _. place (linkOf (b .links) a) refl
+  stands-remove a = choose P (eqb a 0) _ _ (λ _. w) λ _. place (linkOf (b .links) a) refl
     where
       P : Changed → Type 0
-      P r = Stands m (byBoard x r .after) (eventOf h (removeLink a) (byBoard x r .reply) ∷ h)
+      P r = Stands m (byBoard x r .after) (eventsOf h (removeLink a) (byBoard x r .reply) ++ h)
 
       place : (p : Place) → linkOf (b .links) a ≡ p → P (requests.removeAt b p)
       place (At i) e =
@@ -186,9 +210,11 @@ module _ (m : ℕ) (x : Held) (h : List Event) (w : Stands m x h) where
           record {
             slots = w .slots;
             rows = w .rows;
-            links = entry-gone (w .links) i a noLink (g .low) (g .was) (λ c ne. pair-free noLink c refl) (g .others) (pair-free noLink a refl);
+            links = links-ext
+                (entry-gone (w .links) i a noLink (g .low) (g .was) (λ c ne. pair-free noLink c refl) (g .others) (pair-free noLink a refl))
+                (λ c. refl) (λ c. pick-over (counters c) (eqb a c) [] (heardIn h (link c)));
           }
-      place Absent e = still
+      place Absent e = w
 
   -- ---- opening
 
@@ -197,46 +223,58 @@ module _ (m : ℕ) (x : Held) (h : List Event) (w : Stands m x h) where
   slot-for n = sym (slot-told (w .slots) n)
 
   pub stands-network : (f : List ℕ) (g : ℕ) (o : List ℕ)
-      → Stands m (step m (opening Network f g o) x .after) (eventOf h (opening Network f g o) (step m (opening Network f g o) x .reply) ∷ h)
+      → Stands m (step m (opening Network f g o) x .after) (eventsOf h (opening Network f g o) (step m (opening Network f g o) x .reply) ++ h)
   unfolding floorOf
-  stands-network f g o = network-ways m b f (x .addrs) (x .floors) o P (λ n. still) (λ p. still) passed
+  stands-network f g o = network-ways m b f (x .addrs) (x .floors) o P (λ n. w) (λ n p e. rw e w) passed
     where
       P : network.Opening → Type 0
-      P r = Stands m (byNetwork x r .after) (eventOf h (opening Network f g o) (byNetwork x r .reply) ∷ h)
+      P r = Stands m (byNetwork x r .after) (eventsOf h (opening Network f g o) (byNetwork x r .reply) ++ h)
 
       passed : (s : Secured) (i r n : ℕ) (p : List ℕ) → Passed m b f (x .addrs) (x .floors) o s i r
-          → Stands m (held b (set (x .addrs) r (s .sender)) (set (x .floors) r (s .counter + 1))) (hearing h Network (readNetwork f) ∷ h)
+          → Stands m (held b (set (x .addrs) r (s .sender)) (set (x .floors) r (s .counter + 1))) (hearing h Network f (take n p) (readNetwork f) ++ h)
       passed s i r n p t =
           rw (t .read, slot-for (s .sequence), t .found)
           (record {
             slots = w .slots;
-            rows = hear-rows m (w .rows) i i< (s .sender) az r (s .counter) (t .row) least;
+            rows = rows-ext (hear-rows m (w .rows) i i< (s .sender) az r (s .counter) (t .row) least) (λ j c. more (eqb i j) j c)
+                (λ j. pick-over names (eqb i j) (new ∷ heardIn h (slot j)) (heardIn h (slot j)));
             links = w .links;
           })
         where
+          new : Heard
+          new = record { sender = s .sender; counter = s .counter; octets = f; plain = take n p }
+
+          more : (t : Bool) (j c : ℕ) → (if both t (eqb (s .sender) c) then s .counter ∷ counters c (heardIn h (slot j)) else counters c (heardIn h (slot j)))
+              ≡ counters c (if t then new ∷ heardIn h (slot j) else heardIn h (slot j))
+          more true j c = refl
+          more false j c = refl
+
           i< : i < 2
           i< = slot-place (b .slots) (s .sequence) i (t .found)
 
           az : s .sender ≡ 0 → ⊥
           az = sender-some Network f g s (t .read)
 
-          least : bound (openedIn h (slot i) (s .sender)) ≤ s .counter
+          least : bound (counters (s .sender) (heardIn h (slot i))) ≤ s .counter
           least = omega (arith, t .least, w .rows .floor i (s .sender) i< az, ap (floorAt (x .floors)) (row-there m (w .rows) i i< (s .sender)))
 
   pub stands-aps : (f : List ℕ) (g : ℕ) (o : List ℕ)
-      → Stands m (step m (opening Aps f g o) x .after) (eventOf h (opening Aps f g o) (step m (opening Aps f g o) x .reply) ∷ h)
+      → Stands m (step m (opening Aps f g o) x .after) (eventsOf h (opening Aps f g o) (step m (opening Aps f g o) x .reply) ++ h)
   unfolding pairs
-  stands-aps f g o = aps-ways b f g o P (λ n. still) (λ p. still) passed
+  stands-aps f g o = aps-ways b f g o P (λ n. w) (λ n p e. rw e w) passed
     where
       P : aps.Opening → Type 0
-      P r = Stands m (byAps x r .after) (eventOf h (opening Aps f g o) (byAps x r .reply) ∷ h)
+      P r = Stands m (byAps x r .after) (eventsOf h (opening Aps f g o) (byAps x r .reply) ++ h)
 
       passed : (s : Secured) (i n : ℕ) (p : List ℕ) → PassedAps b f g o s i
-          → Stands m (held (withFloor b i (s .counter + 1)) (x .addrs) (x .floors)) (hearing h Aps (readAps f g) ∷ h)
+          → Stands m (held (withFloor b i (s .counter + 1)) (x .addrs) (x .floors)) (hearing h Aps f (take n p) (readAps f g) ++ h)
       passed s i n p t = rw (t .read) (record { slots = w .slots; rows = w .rows; links = links-ext put keys-so opened-so })
         where
           a : ℕ
           a = s .sender
+
+          new : Heard
+          new = record { sender = s .sender; counter = s .counter; octets = f; plain = take n p }
 
           entry : Link
           entry =
@@ -250,18 +288,18 @@ module _ (m : ℕ) (x : Held) (h : List Event) (w : Stands m x h) where
           g' : Mine (w .links) a i
           g' = mine (w .links) a i (t .found)
 
-          told : Tells (b .links) (At i) (keyIn h (link a)) (openedIn h (link a) a)
-          told = subst (λ (p : Place). Tells (b .links) p (keyIn h (link a)) (openedIn h (link a) a)) (t .found) (w .links .tells a)
+          told : Tells (b .links) (At i) (keyIn h (link a)) (counters a (heardIn h (link a)))
+          told = subst (λ (p : Place). Tells (b .links) p (keyIn h (link a)) (counters a (heardIn h (link a)))) (t .found) (w .links .tells a)
 
           pairing : pairs entry a ≡ true
           pairing = g' .pairing
 
           put : Links (set (b .links) i entry) (λ c. if eqb a c then key 0 (linkAt (b .links) i .key) else keyIn h (link c))
-              (λ c. if eqb a c then s .counter ∷ openedIn h (link a) a else openedIn h (link c) c)
+              (λ c. if eqb a c then s .counter ∷ counters a (heardIn h (link a)) else counters c (heardIn h (link c)))
           put =
               entry-put (w .links) i a entry (g' .low) (g' .was) (λ c ne. pair-other entry a c pairing ne) (g' .others)
-              (linkAt (b .links) i .key) (s .counter ∷ openedIn h (link a) a) pairing refl
-              (sym (bound-more (s .counter) (openedIn h (link a) a) (omega (arith, t .least, told .1))))
+              (linkAt (b .links) i .key) (s .counter ∷ counters a (heardIn h (link a))) pairing refl
+              (sym (bound-more (s .counter) (counters a (heardIn h (link a))) (omega (arith, t .least, told .1))))
 
           keys-so : (c : ℕ) → (if eqb a c then key 0 (linkAt (b .links) i .key) else keyIn h (link c)) ≡ keyIn h (link c)
           keys-so c = go (eqb a c) refl
@@ -270,35 +308,35 @@ module _ (m : ℕ) (x : Held) (h : List Event) (w : Stands m x h) where
               go true e = sym (told .0) ∙ ap (λ (z : ℕ). keyIn h (link z)) (eqb-true a c e)
               go false e = refl
 
-          opened-so : (c : ℕ) → (if eqb a c then s .counter ∷ openedIn h (link a) a else openedIn h (link c) c)
-              ≡ (if both (eqb a c) (eqb a c) then s .counter ∷ openedIn h (link c) c else openedIn h (link c) c)
+          opened-so : (c : ℕ) → (if eqb a c then s .counter ∷ counters a (heardIn h (link a)) else counters c (heardIn h (link c)))
+              ≡ counters c (if eqb a c then new ∷ heardIn h (link c) else heardIn h (link c))
           opened-so c = go (eqb a c) refl
             where
-              go : (u : Bool) → eqb a c ≡ u → (if u then s .counter ∷ openedIn h (link a) a else openedIn h (link c) c)
-                  ≡ (if both u u then s .counter ∷ openedIn h (link c) c else openedIn h (link c) c)
-              go true e = ap (λ (z : ℕ). s .counter ∷ openedIn h (link z) z) (eqb-true a c e)
+              go : (u : Bool) → eqb a c ≡ u → (if u then s .counter ∷ counters a (heardIn h (link a)) else counters c (heardIn h (link c)))
+                  ≡ counters c (if u then new ∷ heardIn h (link c) else heardIn h (link c))
+              go true e = rw e (ap (λ (z : ℕ). s .counter ∷ counters z (heardIn h (link z))) (eqb-true a c e))
               go false e = refl
 
   -- ---- sealing
 
   pub stands-seal : (l : Layer) (f : List ℕ) (a k : ℕ) (o : List ℕ)
-      → Stands m (step m (sealing l f a k o) x .after) (eventOf h (sealing l f a k o) (step m (sealing l f a k o) x .reply) ∷ h)
+      → Stands m (step m (sealing l f a k o) x .after) (eventsOf h (sealing l f a k o) (step m (sealing l f a k o) x .reply) ++ h)
   unfolding spent
   stands-seal Network f a k o =
-      network-seals b f o (λ (r : Framed). Stands m (bySeal x r .after) (sending Network (bySeal x r .reply) ∷ h)) (λ n. still)
+      network-seals b f o (λ (r : Framed). Stands m (bySeal x r .after) (eventsOf h (sealing Network f a k o) (bySeal x r .reply) ++ h)) (λ n. w)
       (λ n p t. record { slots = w .slots; rows = w .rows; links = w .links })
   stands-seal Aps f a k o =
-      aps-seals b f a k o (λ (r : Framed). Stands m (bySeal x r .after) (sending Aps (bySeal x r .reply) ∷ h)) (λ n. still)
+      aps-seals b f a k o (λ (r : Framed). Stands m (bySeal x r .after) (eventsOf h (sealing Aps f a k o) (bySeal x r .reply) ++ h)) (λ n. w)
       (λ n p t. record { slots = w .slots; rows = w .rows; links = w .links })
 
   -- the writer moves the APS counter, and nothing else
-  pub stands-write : (a : Bool) (c : Command) (k r o : List ℕ) → Stands m (step m (writing a c k r o) x .after) (nothing ∷ h)
+  pub stands-write : (a : Bool) (c : Command) (k r o : List ℕ) → Stands m (step m (writing a c k r o) x .after) (eventsOf h (writing a c k r o) (step m (writing a c k r o) x .reply) ++ h)
   unfolding counted
   stands-write a c k r o =
-      writes b a c k r o (λ (w : Framed). Stands m (bySeal x w .after) (nothing ∷ h)) (λ n. still)
+      writes b a c k r o (λ (w : Framed). Stands m (bySeal x w .after) (eventsOf h (writing a c k r o) (bySeal x w .reply) ++ h)) (λ n. w)
       (λ n p. record { slots = w .slots; rows = w .rows; links = w .links })
 
-pub stands-step : (m : ℕ) (c : Call) (x : Held) (h : List Event) → Stands m x h → Stands m (step m c x .after) (eventOf h c (step m c x .reply) ∷ h)
+pub stands-step : (m : ℕ) (c : Call) (x : Held) (h : List Event) → Stands m x h → Stands m (step m c x .after) (eventsOf h c (step m c x .reply) ++ h)
 stands-step m (install i n k) x h w = stands-install m x h w i n k
 stands-step m (switch n) x h w = stands-switch m x h w n
 stands-step m (addLink a k) x h w = stands-add m x h w a k
@@ -307,11 +345,11 @@ stands-step m (forget i a) x h w = stands-forget m x h w i a
 stands-step m (opening Network f g o) x h w = stands-network m x h w f g o
 stands-step m (opening Aps f g o) x h w = stands-aps m x h w f g o
 stands-step m (sealing l f a k o) x h w = stands-seal m x h w l f a k o
-stands-step m (looking Network f g) x h w = still m x h w
-stands-step m (looking Aps f g) x h w = still m x h w
+stands-step m (looking Network f g) x h w = w
+stands-step m (looking Aps f g) x h w = w
 stands-step m (writing a c k r o) x h w = stands-write m x h w a c k r o
 
 -- after any calls
-pub stands : (m own : ℕ) (cs : List Call) → Stands m (run m own cs) (story (answers m own) cs)
+pub stands : (m own : ℕ) (cs : List Call) → Stands m (run m own cs) (story (exchanges (replies m own) cs))
 stands m own [] = stands-fresh m own
-stands m own (c ∷ cs) = stands-step m c (run m own cs) (story (answers m own) cs) (stands m own cs)
+stands m own (c ∷ cs) = stands-step m c (run m own cs) (story (exchanges (replies m own) cs)) (stands m own cs)

@@ -11,7 +11,7 @@ use borrow.Author.Tests.{eqb-false, ltb-false}
 use Rattle.octets.proofs.Choices.{choose}
 use Rattle.octets.specs.Choice.{both}
 use Rattle.octets.specs.Lists.{onto}
-use Rattle.answers.specs.declared.Guard.the-variants.{Clear, Under}
+use Rattle.answers.specs.Numbers.{clear, under}
 use Rattle.answers.specs.Numbers.{opened, sealed, turnedDown}
 use Rattle.cipher.specs.Ccm.{Opened, valid, invalid}
 use Rattle.frames.specs.declared.Layer.{Layer}
@@ -59,12 +59,12 @@ module _ (m : ℕ) (b : Board) (f al fl o : List ℕ) where
     pub row : rowFor m al i (s .sender) ≡ At r
 
   pub network-ways : (P : network.Opening → Type 0) → ((n : ℕ) → P (network.gave (turnedDown n) al fl o))
-      → ((p : List ℕ) → P (network.gave (opened (length f) 0 Clear) al fl p))
+      → ((n : ℕ) (p : List ℕ) → readNetwork f ≡ plain n → P (network.gave (opened (length f) 0 clear) al fl p))
       → ((s : Secured) (i r n : ℕ) (p : List ℕ) → Passed s i r
-      → P (network.gave (opened n (s .sender) (Under 1)) (set al r (s .sender)) (set fl r (s .counter + 1)) p))
+      → P (network.gave (opened n (s .sender) (under 1)) (set al r (s .sender)) (set fl r (s .counter + 1)) p))
       → P (openNetwork m b f al fl o)
   unfolding openNetwork network.openedRead network.openedKeyed network.openedUnder network.admitted
-  network-ways P down clear passed =
+  network-ways P down unsecured passed =
       choose P (not (both (leb longest (length o)) (listsFit m al fl))) _ _ (λ _. down 1) λ _.
       choose P (ltb longest (length f)) _ _ (λ _. down 2) λ _.
       read (readNetwork f) refl
@@ -84,7 +84,7 @@ module _ (m : ℕ) (b : Board) (f al fl o : List ℕ) where
 
       read : (r : Reading) → readNetwork f ≡ r → P (network.openedRead m (b .slots) f al fl o r)
       read (refused n) e = down n
-      read (plain n) e = clear _
+      read (plain n) e = unsecured n _ e
       read (secured s) e = keyed s e (slotOf (b .slots) (s .sequence)) refl
 
 module _ (b : Board) (f : List ℕ) (g : ℕ) (o : List ℕ) where
@@ -95,12 +95,12 @@ module _ (b : Board) (f : List ℕ) (g : ℕ) (o : List ℕ) where
     pub least : linkAt (b .links) i .floor ≤ s .counter
 
   pub aps-ways : (P : aps.Opening → Type 0) → ((n : ℕ) → P (aps.gave (turnedDown n) b o))
-      → ((p : List ℕ) → P (aps.gave (opened (length f) 0 Clear) b p))
+      → ((n : ℕ) (p : List ℕ) → readAps f g ≡ plain n → P (aps.gave (opened (length f) 0 clear) b p))
       → ((s : Secured) (i n : ℕ) (p : List ℕ) → PassedAps s i
-      → P (aps.gave (opened n (s .sender) (Under (identifierOf (s .control)))) (withFloor b i (s .counter + 1)) p))
+      → P (aps.gave (opened n (s .sender) (under (identifierOf (s .control)))) (withFloor b i (s .counter + 1)) p))
       → P (openAps b f g o)
   unfolding openAps aps.openedRead aps.openedKeyed aps.openedUnder aps.admitted
-  aps-ways P down clear passed =
+  aps-ways P down unsecured passed =
       choose P (ltb (length o) longest) _ _ (λ _. down 1) λ _.
       choose P (ltb longestAps (length f)) _ _ (λ _. down 2) λ _.
       read (readAps f g) refl
@@ -119,7 +119,7 @@ module _ (b : Board) (f : List ℕ) (g : ℕ) (o : List ℕ) where
 
       read : (r : Reading) → readAps f g ≡ r → P (aps.openedRead b f o r)
       read (refused n) e = down n
-      read (plain n) e = clear _
+      read (plain n) e = unsecured n _ e
       read (secured s) e = keyed s e (linkOf (b .links) (s .sender)) refl
 
 -- ---- sealing, at either layer

@@ -1,10 +1,11 @@
 -- Demand 3 is said "over any sequence of calls": the requests of document 01 with their arguments, and what each answers.
 -- Assumes nothing.
-use mathlib.Core.Bool.{Bool}
+use mathlib.Core.Bool.{Bool, true, false}
 use mathlib.Core.List.{List, [], _∷_}
 use Prim.Native.Nat.{ℕ}
+use lib.ListN.{take}
 use Rattle.octets.specs.Lists.{Octets}
-use Rattle.answers.specs.Numbers.{Told, FrameTold}
+use Rattle.answers.specs.Numbers.{Told, done, refused, FrameTold, opened, sealed, turnedDown}
 use Rattle.frames.specs.declared.Layer.{Layer}
 use Rattle.commands.specs.declared.Command.{Command}
 
@@ -36,23 +37,49 @@ pub data Reply : Type 0 where
   gave : FrameTold → List ℕ → Reply
   looked : Bool → Reply
 
--- a board, by what it answers to a call after those before it; in a list of calls the last one stands first
-abbrev pub Answers : Type 0
-Answers = List Call → Call → Reply
+-- "A refusal returns its number and nothing else": every other reply is none, whatever it tells
+abbrev pub refuses : Reply → Bool
+refuses (answered done) = false
+refuses (answered (refused n)) = true
+refuses (gave (opened n a p) o) = false
+refuses (gave (sealed n) o) = false
+refuses (gave (turnedDown n) o) = true
+refuses (looked t) = false
 
--- the octets of the frame that a call hands in
-abbrev pub frameOf : Call → List ℕ
-frameOf (install i n k) = []
-frameOf (switch n) = []
-frameOf (addLink a k) = []
-frameOf (removeLink a) = []
-frameOf (forget i a) = []
-frameOf (opening l f g o) = f
-frameOf (sealing l f a k o) = f
-frameOf (looking l f g) = f
-frameOf (writing a c k r o) = []
+-- the frame that a reply hands out: of the output that it left, as many octets as it tells
+abbrev pub handedOut : Reply → List ℕ
+handedOut (answered t) = []
+handedOut (gave (opened n a p) o) = take n o
+handedOut (gave (sealed n) o) = take n o
+handedOut (gave (turnedDown n) o) = []
+handedOut (looked t) = []
 
--- frames are strings of octets, as everything is that a program can hand in
-abbrev pub Octetwise : List Call → Type 0
-Octetwise [] = Octets []
-Octetwise (c ∷ cs) = Octets (frameOf c) × Octetwise cs
+-- a call with its reply; in every list of calls the last one stands first
+pub record Exchange : Type 0 where
+  pub call : Call
+  pub reply : Reply
+
+-- a board, by what it replies to a call after those before it
+abbrev pub Replies : Type 0
+Replies = List Call → Call → Reply
+
+abbrev pub exchanges : Replies → List Call → List Exchange
+exchanges board [] = []
+exchanges board (c ∷ cs) = record { call = c; reply = board cs c } ∷ exchanges board cs
+
+-- the plain frame that a call hands in to be sealed
+abbrev pub toSeal : Call → List ℕ
+toSeal (install i n k) = []
+toSeal (switch n) = []
+toSeal (addLink a k) = []
+toSeal (removeLink a) = []
+toSeal (forget i a) = []
+toSeal (opening l f g o) = []
+toSeal (sealing l f a k o) = f
+toSeal (looking l f g) = []
+toSeal (writing a c k r o) = []
+
+-- what is handed in to be sealed is octets, as everything is that a program can hand in
+abbrev pub SealsOctets : List Call → Type 0
+SealsOctets [] = Octets []
+SealsOctets (c ∷ cs) = Octets (toSeal c) × SealsOctets cs

@@ -1,5 +1,5 @@
 pub mod Calls
-pub mod Told
+pub mod Events
 pub mod Story
 pub mod Statement
 pub mod Running

@@ -5,12 +5,13 @@ use mathlib.Core.Path.{_≡_}
 use mathlib.Core.List.{List, [], _∷_}
 use Prim.Native.Nat.{ℕ, _*_, _^_, _<_}
 use lib.ListN.{replicate}
-use Rattle.history.specs.Calls.{Call, install, switch, addLink, removeLink, forget, opening, sealing, looking, writing, Reply, answered, gave, looked, Answers}
+use Rattle.history.specs.Calls.{Call, install, switch, addLink, removeLink, forget, opening, sealing, looking, writing, Reply, answered, gave, looked, Replies}
 use Rattle.history.specs.Statement.{First, Second}
 use Rattle.answers.specs.Numbers.{done}
 use Rattle.frames.specs.declared.Layer.the-variants.{Network, Aps}
 use Rattle.board.specs.declared.Board.{Board}
 use Rattle.board.specs.Requests.{Left, Changed, Freed}
+use Rattle.board.specs.Rows.{half}
 use Rattle.board.specs.Sending.{Framed}
 use Rattle.board.specs.Requests as requests
 use Rattle.network.specs.Opening as network
@@ -77,11 +78,16 @@ abbrev pub run : ℕ → ℕ → List Call → Held
 run m own [] = start m own
 run m own (c ∷ cs) = step m c (run m own cs) .after
 
-abbrev pub answers : ℕ → ℕ → Answers
-answers m own cs c = step m c (run m own cs) .reply
+abbrev pub replies : ℕ → ℕ → Replies
+replies m own cs c = step m c (run m own cs) .reply
 
--- ---- demand 3, of our board: of every own address for which a state is made
+-- ---- demand 3, of our board: for any number of rows a slot, and of every own address for which a state is made
 
 abbrev pub Demand3 : Type 0
 Demand3 =
-    (m own : ℕ) → own < 2 ^ 64 → requests.make own .answer ≡ done → First (answers m own) × Second m (answers m own)
+    (m own : ℕ) → own < 2 ^ 64 → requests.make own .answer ≡ done → First (replies m own) × Second m (replies m own)
+
+-- the same of the routines: the contracts of `board` and `network` set 32 rows a slot
+abbrev pub OurDemand3 : Type 0
+OurDemand3 =
+    (own : ℕ) → own < 2 ^ 64 → requests.make own .answer ≡ done → First (replies half own) × Second half (replies half own)

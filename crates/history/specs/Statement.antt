@@ -1,47 +1,56 @@
--- Demand 3, of any board, by its answers to any calls. "No two sealed frames carry the same outgoing counter." "A secured frame
+-- Demand 3, of any board, by its replies to any calls. "No two sealed frames carry the same outgoing counter." "A secured frame
 -- is opened exactly when 01's checks of lengths, form, key, tag and room pass and its counter is below 4,294,967,295 and above
 -- every counter opened before from that sender under that key since the key was installed or the sender forgotten."
 -- Assumes nothing.
 use mathlib.Core.Path.{_≡_}
-use mathlib.Core.Bool.{Bool, true, false}
+use mathlib.Core.Bool.{Bool, true, false, not}
 use mathlib.Core.List.{List, [], _∷_}
-use Prim.Native.Nat.{ℕ, _<_}
-use lib.Dec.{ltb, leb}
-use lib.ListN.{length, getD}
+use Prim.Native.Nat.{ℕ}
+use lib.Dec.{eqb, ltb, leb}
+use lib.ListN.{length}
 use Rattle.octets.specs.Choice.{if_then_else_, both}
 use Rattle.octets.specs.Lists.{Octets}
-use Rattle.history.specs.Calls.{Call, opening, Answers, Octetwise}
-use Rattle.history.specs.Told.{Holder, Event, Key, slot, link, nowhere, none, key, keyIn, holderFor, openedIn, member, sendersIn, sentIn}
-use Rattle.history.specs.Story.{readAt, taken, story}
+use Rattle.history.specs.Calls.{Call, opening, Reply, answered, gave, looked, refuses, Replies, exchanges, SealsOctets}
+use Rattle.history.specs.Events.{Holder, slot, link, nowhere, Key, none, key, Heard, Sent, Event, keyIn, holderFor, heardIn, isFrom, senders, sentIn}
+use Rattle.history.specs.Story.{readAt, story}
+use Rattle.answers.specs.Numbers.{clear, under}
+use Rattle.answers.specs.Numbers.{opened, sealed, turnedDown}
 use Rattle.frames.specs.declared.Layer.{Layer}
 use Rattle.frames.specs.declared.Layer.the-variants.{Network, Aps}
 use Rattle.frames.specs.declared.Secured.{Secured}
+use Rattle.frames.specs.Aps.{longestAps}
 use Rattle.frames.specs.Security.{identifierOf}
 use Rattle.frames.specs.Reading.{Reading, refused, plain, secured}
 use Rattle.board.specs.Sending.{top}
 use Rattle.seals.specs.Sealing.{longest, genuine}
 use Rattle.aps.specs.Keys.{keyFor}
-use Rattle.frames.specs.Aps.{longestAps}
 
--- ---- the first statement
+-- ---- the first statement: the counters rise from each sealed frame to the next
 
--- two sealed frames, each read as secured, with different counters
-abbrev pub Apart : Reading → Reading → Type 0
-Apart (secured s) (secured t) = s .counter ≡ t .counter → ⊥
-Apart (secured s) (plain m) = ⊥
-Apart (secured s) (refused m) = ⊥
-Apart (plain n) r = ⊥
-Apart (refused n) r = ⊥
+-- as receivers read them, who give no sender
+abbrev pub readings : List Sent → List Reading
+readings [] = []
+readings (s ∷ ss) = readAt (s .layer) (s .octets) 0 ∷ readings ss
 
--- of calls whose frames are octets
-abbrev pub First : Answers → Type 0
-First ans =
-    (cs : List Call) → Octetwise cs → (i j : ℕ) → i < j → j < length (sentIn (story ans cs))
-    → Apart (getD (sentIn (story ans cs)) i (plain 0)) (getD (sentIn (story ans cs)) j (plain 0))
+-- the frame before, if there is one, is secured and carries a counter below n
+abbrev pub lower : List Reading → ℕ → Bool
+lower [] n = true
+lower (secured s ∷ rs) n = ltb (s .counter) n
+lower (plain k ∷ rs) n = false
+lower (refused k ∷ rs) n = false
+
+abbrev pub rising : List Reading → Bool
+rising [] = true
+rising (secured s ∷ rs) = both (lower rs (s .counter)) (rising rs)
+rising (plain k ∷ rs) = false
+rising (refused k ∷ rs) = false
+
+abbrev pub First : Replies → Type 0
+First board = (cs : List Call) → SealsOctets cs → rising (readings (sentIn (story (exchanges board cs)))) ≡ true
 
 -- ---- the second statement, with room for m senders under a slot's key (32)
 
--- lengths: "output under 116 octets", "network input over 116, APS over 108"
+-- lengths: "network input over 116, APS over 108"
 abbrev pub longestAt : Layer → ℕ
 longestAt Network = longest
 longestAt Aps = longestAps
@@ -51,36 +60,54 @@ abbrev pub keyAt : Layer → Secured → List ℕ → List ℕ
 keyAt Network s k = k
 keyAt Aps s k = keyFor k (identifierOf (s .control))
 
-abbrev pub aboveAll : ℕ → List ℕ → Bool
-aboveAll n [] = true
-aboveAll n (c ∷ l) = both (ltb c n) (aboveAll n l)
+-- "above every counter opened before from that sender"
+abbrev pub aboveAll : ℕ → ℕ → List Heard → Bool
+aboveAll a n [] = true
+aboveAll a n (r ∷ l) = both (if eqb (r .sender) a then ltb (r .counter) n else true) (aboveAll a n l)
 
 -- "There is room if the sender was opened under that installation and not forgotten since, or if fewer than 32 senders were."
 -- A link entry has one sender, its partner.
 abbrev pub room : ℕ → List Event → Holder → ℕ → Bool
-room m h (slot i) a = if member a (sendersIn h (slot i)) then true else ltb (length (sendersIn h (slot i))) m
+room m h (slot i) a = if isFrom a (heardIn h (slot i)) then true else ltb (senders (heardIn h (slot i))) m
 room m h (link p) a = true
 room m h nowhere a = false
 
 -- key, counter, tag and room
-unfoldable pub opensUnder : ℕ → List Event → Layer → List ℕ → Secured → Holder → Key → Bool
-opensUnder m h l f s x none = false
-opensUnder m h l f s x (key n k) =
+unfoldable pub passesUnder : ℕ → List Event → Layer → List ℕ → Secured → Holder → Key → Bool
+passesUnder m h l f s x none = false
+passesUnder m h l f s x (key n k) =
     both (ltb (s .counter) top)
-    (both (aboveAll (s .counter) (openedIn h x (s .sender)))
+    (both (aboveAll (s .sender) (s .counter) (heardIn h x))
     (both (genuine (keyAt l s k) f s) (room m h x (s .sender))))
 
 -- form: the frame is read as secured
-unfoldable pub opensRead : ℕ → List Event → Layer → List ℕ → Reading → Bool
-opensRead m h l f (secured s) = opensUnder m h l f s (holderFor h l s) (keyIn h (holderFor h l s))
-opensRead m h l f (plain n) = false
-opensRead m h l f (refused n) = false
+unfoldable pub passesRead : ℕ → List Event → Layer → List ℕ → Reading → Bool
+passesRead m h l f (secured s) = passesUnder m h l f s (holderFor h l s) (keyIn h (holderFor h l s))
+passesRead m h l f (plain n) = false
+passesRead m h l f (refused n) = false
 
-unfoldable pub opensAfter : ℕ → List Event → Layer → List ℕ → ℕ → List ℕ → Bool
-opensAfter m h l f g o = both (leb longest (length o)) (both (leb (length f) (longestAt l)) (opensRead m h l f (readAt l f g)))
+-- lengths: "output under 116 octets"
+unfoldable pub passes : ℕ → List Event → Layer → List ℕ → ℕ → List ℕ → Bool
+passes m h l f g o = both (leb longest (length o)) (both (leb (length f) (longestAt l)) (passesRead m h l f (readAt l f g)))
+
+-- a reply that tells a key's identifier
+abbrev pub tellsKey : Reply → Bool
+tellsKey (answered t) = false
+tellsKey (gave (opened n a clear) o) = false
+tellsKey (gave (opened n a (under k)) o) = true
+tellsKey (gave (sealed n) o) = false
+tellsKey (gave (turnedDown n) o) = false
+tellsKey (looked t) = false
+
+-- A secured frame, and one that reading refuses, is opened, which is any reply but a refusal, exactly when the checks pass (t).
+-- Of an unsecured one the reply tells no key.
+abbrev pub Rightly : Reading → Reply → Bool → Type 0
+Rightly (secured s) r t = not (refuses r) ≡ t
+Rightly (refused n) r t = not (refuses r) ≡ t
+Rightly (plain n) r t = tellsKey r ≡ false
 
 -- of a frame of octets, after any calls
-abbrev pub Second : ℕ → Answers → Type 0
-Second m ans =
+abbrev pub Second : ℕ → Replies → Type 0
+Second m board =
     (cs : List Call) (l : Layer) (f : List ℕ) (g : ℕ) (o : List ℕ) → Octets f
-    → taken (ans cs (opening l f g o)) ≡ opensAfter m (story ans cs) l f g o
+    → Rightly (readAt l f g) (board cs (opening l f g o)) (passes m (story (exchanges board cs)) l f g o)

@@ -3,22 +3,23 @@
 use mathlib.Core.Path.{_≡_, refl, sym, ap, ap₂, _∙_}
 use mathlib.Core.Bool.{Bool, true}
 use mathlib.Core.List.{List}
-use Prim.Native.Nat.{ℕ, _+_, _≤_}
+use Prim.Native.Nat.{ℕ, _+_, _*_, _≤_, _<_}
 use native.Mathlib.Omega.{arith}
 use lib.ListN.{length, set}
-use Rattle.octets.specs.Choice.{both}
-use Rattle.octets.specs.Lists.{onto}
-use Rattle.network.specs.Opening.{gave, admitted, turnedAway}
-use Rattle.answers.specs.declared.Guard.the-variants.{Under}
-use Rattle.answers.specs.Numbers.{FrameTold, opened, turnedDown}
+use Rattle.octets.specs.Choice.{if_then_else_, both}
+use Rattle.network.specs.Opening.{gave, orFree, rowFor, admitted}
+use Rattle.answers.specs.Numbers.{under}
+use Rattle.answers.specs.Numbers.{opened, turnedDown}
 use Rattle.cipher.specs.Ccm.{Opened, valid, invalid}
 use Rattle.frames.specs.declared.Layer.the-variants.{Network}
 use Rattle.frames.specs.declared.Secured.{Secured}
 use Rattle.board.specs.declared.Place.{Place}
 use Rattle.board.specs.declared.Place.the-variants.{At, Absent}
+use Rattle.board.specs.Rows.{findRow}
+use Rattle.board.proofs.Found.{row-place}
 use Rattle.seals.specs.declared.Unsealed.{Unsealed}
 use Rattle.seals.specs.declared.Unsealed.the-variants.{Plain, Forged}
-use Rattle.seals.specs.Sealing.{messageOf, isValid, genuine, plainFrame, toldUnsealed, sound, unsealing, looking, gave as Seals·gave}
+use Rattle.seals.specs.Sealing.{messageOf, isValid, genuine, toldUnsealed, sound, unsealing, looking, gave as Seals·gave}
 use Rattle.frames.specs.Reading.{secured, readNetwork}
 use Rattle.frames.proofs.Found.{secured-frame}
 use Rattle.seals.proofs.Opened.{tells-sound}
@@ -26,14 +27,14 @@ use Rattle.seals.proofs.Tells.{plain-tells, forged-tells}
 
 module _ (k f : List ℕ) (s : Secured) (al fl o : List ℕ) (t : sound f s ≡ true) (room : 116 ≤ length o) where
   -- the tag fits, and row r was put
-  pub admit-plain : (w : Unsealed) (n r : ℕ) (p bl gl : List ℕ) → w ≡ Plain n
-      → Seals·gave (toldUnsealed w) p ≡ unsealing k Network f s o → bl ≡ set al r (s .sender) → gl ≡ set fl r (s .counter + 1)
-      → gave (opened n (s .sender) (Under 1)) bl gl p ≡ admitted f s al fl o (messageOf k f s) (At r)
+  pub admit-plain : (w : Unsealed) (n r : ℕ) (p : List ℕ) → w ≡ Plain n → Seals·gave (toldUnsealed w) p ≡ unsealing k Network f s o
+      → gave (opened n (s .sender) (under 1)) (set al r (s .sender)) (set fl r (s .counter + 1)) p
+      ≡ admitted f s al fl o (messageOf k f s) (At r)
   unfolding admitted
-  admit-plain w n r p bl gl ew e eb eg =
+  admit-plain w n r p ew e =
       let m = plain-tells k Network f s o t room w n p ew e in
-      ap₂ (λ (x : ℕ) (y : List ℕ). gave (opened x (s .sender) (Under 1)) bl gl y) (m .count) (m .laid)
-      ∙ ap₂ (λ (x y : List ℕ). gave (opened (s .header + length (m .message)) (s .sender) (Under 1)) x y (onto (plainFrame Network f s (m .message)) o)) eb eg
+      ap₂ (λ (x : ℕ) (y : List ℕ). gave (opened x (s .sender) (under 1)) (set al r (s .sender)) (set fl r (s .counter + 1)) y) (m .count)
+      (m .laid)
       ∙ sym (ap (λ (x : Opened). admitted f s al fl o x (At r)) (m .fits))
 
   -- the tag does not fit
@@ -44,14 +45,26 @@ module _ (k f : List ℕ) (s : Secured) (al fl o : List ℕ) (t : sound f s ≡ 
       let m = forged-tells k Network f s o t room w p ew e in
       ap (gave (turnedDown 9) al fl) (m .1) ∙ sym (ap (λ (x : Opened). admitted f s al fl o x q) (m .0))
 
-  -- there is no row
-  pub away : (w : FrameTold) → w ≡ turnedAway (looking k f s) → gave w al fl o ≡ admitted f s al fl o (messageOf k f s) Absent
-  unfolding looking genuine admitted
-  away w e = ap (λ (x : FrameTold). gave x al fl o) (e ∙ ap (λ (b : Bool). turnedAway (both b (isValid (messageOf k f s)))) t) ∙ go (messageOf k f s)
-    where
-      go : (m : Opened) → gave (turnedAway (isValid m)) al fl o ≡ admitted f s al fl o m Absent
-      go (valid m) = refl
-      go invalid = refl
+-- there is no row: 9 comes before 10
+pub away : (k f : List ℕ) (s : Secured) → sound f s ≡ true → (b : Bool) → looking k f s ≡ b
+    → (al fl o : List ℕ) → gave (turnedDown (if b then 10 else 9)) al fl o ≡ admitted f s al fl o (messageOf k f s) Absent
+unfolding looking genuine admitted
+away k f s t b e al fl o =
+    ap (λ (x : Bool). gave (turnedDown (if x then 10 else 9)) al fl o) (sym e ∙ ap (λ (x : Bool). both x (isValid (messageOf k f s))) t)
+    ∙ go (messageOf k f s)
+  where
+    go : (m : Opened) → gave (turnedDown (if isValid m then 10 else 9)) al fl o ≡ admitted f s al fl o m Absent
+    go (valid m) = refl
+    go invalid = refl
+
+-- the row that was found is one that the list has
+pub row-there : (h : ℕ) (al : List ℕ) (i a r : ℕ) → rowFor h al i a ≡ At r → r < length al
+unfolding rowFor
+row-there h al i a r e = go (findRow al (i * h) h a) refl e
+  where
+    go : (p : Place) → findRow al (i * h) h a ≡ p → orFree h al i p ≡ At r → r < length al
+    go (At q) d e = row-place al (i * h) h a r (d ∙ e)
+    go Absent d e = row-place al (i * h) h 0 r e
 
 -- a frame that was read as secured is what it announces
 pub read-sound : (f : List ℕ) (s : Secured) → readNetwork f ≡ secured s → length f ≤ 116 → sound f s ≡ true

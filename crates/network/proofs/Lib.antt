@@ -1,4 +1,3 @@
 pub mod Admission
 pub mod Sends
 pub mod RoundTrip
-pub mod Cases

@@ -13,7 +13,7 @@ use Rattle.frames.specs.Reading.{plain, readNetworkPlain}
 use Rattle.frames.proofs.Found.{plain-to-seal}
 use Rattle.board.specs.declared.Board.{Board}
 use Rattle.board.specs.declared.Slot.{Slot}
-use Rattle.board.specs.Sending.{top, spent, after, framed}
+use Rattle.board.specs.Sending.{top, raised, withOutgoing, spent, framed}
 use Rattle.seals.specs.declared.Sealed.{Sealed}
 use Rattle.seals.specs.declared.Sealed.the-variants.{Octets}
 use Rattle.seals.specs.Sealing.{sentOctets, sealing, toldSealed, gave as Seals·gave}
@@ -27,17 +27,18 @@ sealable-net f h a b c = record { headed = a; within = b; short = omega arith }
 -- a board that has this counter and this address, whatever else
 module _ (n own : ℕ) (s : Slot) (f : List ℕ) (h : ℕ) (o : List ℕ) where
   pub top-slot : n ≡ top → (b : Board) → b .outgoing ≡ n → b .own ≡ own
-      → framed (turnedDown 7) (after (turnedDown 7) b) o ≡ sealedUnder b f o h s
+      → framed (turnedDown 7) b o ≡ sealedUnder b f o h s
   unfolding sealedUnder
   top-slot q b en eo = simp (eq-eqb _ _ (en ∙ q))
 
   pub sealed-slot : 2 ≤ h → h ≤ length f → length f ≤ 98 → 116 ≤ length o → (n ≡ top → ⊥) → (w : Sealed) (m : ℕ) (p : List ℕ) → w ≡ Octets m
       → Seals·gave (toldSealed w) p ≡ sealing (s .key) Network 1 n own (s .seq) f h o → (b : Board) → b .outgoing ≡ n → b .own ≡ own
-      → framed (sealed m) (after (sealed m) b) p ≡ sealedUnder b f o h s
+      → framed (sealed m) (withOutgoing b (raised (b .outgoing))) p ≡ sealedUnder b f o h s
   unfolding sealedUnder sentOctets spent
   sealed-slot h2 hf h98 room nt w m p ew e b en eo =
       let d = e ∙ sym (ap₂ (λ (x y : ℕ). sealing (s .key) Network 1 x y (s .seq) f h o) en eo) in
-      let t = sealed-tells (s .key) Network 1 (b .outgoing) (b .own) (s .seq) f h o (omega arith) (sealable-net f h h2 hf h98) room w m p ew d in
+      let x = sealable-net f h h2 hf h98 in
+      let t = sealed-tells (s .key) Network 1 (b .outgoing) (b .own) (s .seq) f h o (omega arith) x room w m p ew d in
       let c : m ≡ length f + overhead = omega (arith, t .0) in
       ap (λ (x : ℕ). framed (sealed x) (spent b) p) c
       ∙ ap (framed (sealed (length f + overhead)) (spent b)) (t .1)

@@ -3,19 +3,19 @@
 -- length, the sender (0 if unsecured) and the protection found (none or the key identifier)." "A refusal returns its
 -- number and nothing else; state, lists and output stay."
 -- Assumes nothing.
-use mathlib.Core.Bool.{Bool, true, false, not}
+use mathlib.Core.Bool.{Bool, false, not}
 use mathlib.Core.List.{List}
 use Prim.Native.Nat.{ℕ, _+_, _*_}
 use lib.Dec.{eqb, leb, ltb}
 use lib.ListN.{length, getD, set}
 use Rattle.octets.specs.Choice.{if_then_else_, both}
 use Rattle.octets.specs.Lists.{onto}
-use Rattle.answers.specs.declared.Guard.the-variants.{Clear, Under}
+use Rattle.answers.specs.Numbers.{clear, under}
 use Rattle.answers.specs.Numbers.{FrameTold, opened, turnedDown}
 use Rattle.cipher.specs.Ccm.{Opened, valid, invalid}
 use Rattle.frames.specs.declared.Layer.the-variants.{Network}
 use Rattle.frames.specs.declared.Secured.{Secured}
-use Rattle.frames.specs.Reading.{Reading, plain, secured, readNetwork, refused as refused}
+use Rattle.frames.specs.Reading.{Reading, plain, secured, readNetwork, refused}
 use Rattle.board.specs.declared.Board.{Board}
 use Rattle.board.specs.declared.Slot.{Slot}
 use Rattle.board.specs.declared.Place.{Place}
@@ -61,12 +61,8 @@ unfoldable pub admitted : List ℕ → Secured → List ℕ → List ℕ → Lis
 admitted f s al fl o invalid p = gave (turnedDown 9) al fl o
 admitted f s al fl o (valid m) Absent = gave (turnedDown 10) al fl o
 admitted f s al fl o (valid m) (At r) =
-    gave (opened (s .header + length m) (s .sender) (Under 1)) (set al r (s .sender)) (set fl r (s .counter + 1)) (onto (plainFrame Network f s m) o)
-
--- a stranger for whom no row is free, by whether the tag fits
-abbrev pub turnedAway : Bool → FrameTold
-turnedAway true = turnedDown 10
-turnedAway false = turnedDown 9
+    gave (opened (s .header + length m) (s .sender) (under 1)) (set al r (s .sender)) (set fl r (s .counter + 1))
+    (onto (plainFrame Network f s m) o)
 
 -- 7 and 8, under the key of slot i
 unfoldable pub openedUnder : ℕ → List ℕ → ℕ → List ℕ → Secured → List ℕ → List ℕ → List ℕ → Opening
@@ -85,7 +81,7 @@ openedKeyed h ss f s al fl o Absent = gave (turnedDown 6) al fl o
 
 unfoldable pub openedRead : ℕ → List Slot → List ℕ → List ℕ → List ℕ → List ℕ → Reading → Opening
 openedRead h ss f al fl o (refused n) = gave (turnedDown n) al fl o
-openedRead h ss f al fl o (plain n) = gave (opened (length f) 0 Clear) al fl (onto f o)
+openedRead h ss f al fl o (plain n) = gave (opened (length f) 0 clear) al fl (onto f o)
 openedRead h ss f al fl o (secured s) = openedKeyed h ss f s al fl o (slotOf ss (s .sequence))
 
 unfoldable pub openNetwork : ℕ → Board → List ℕ → List ℕ → List ℕ → List ℕ → Opening
@@ -94,7 +90,7 @@ openNetwork h b f al fl o =
     else (if ltb longest (length f) then gave (turnedDown 2) al fl o
     else openedRead h (b .slots) f al fl o (readNetwork f))
 
--- ---- the look: whether the tag fits the key that is found, whatever the counter
+-- ---- the look: whether the tag of a frame that is not too long (2) fits the key that is found, whatever the counter
 
 unfoldable pub lookedKeyed : List Slot → List ℕ → Secured → Place → Bool
 lookedKeyed ss f s (At i) = looking (slotAt ss i .key) f s
@@ -106,4 +102,4 @@ lookedRead ss f (plain n) = false
 lookedRead ss f (secured s) = lookedKeyed ss f s (slotOf ss (s .sequence))
 
 unfoldable pub lookNetwork : Board → List ℕ → Bool
-lookNetwork b f = lookedRead (b .slots) f (readNetwork f)
+lookNetwork b f = if ltb longest (length f) then false else lookedRead (b .slots) f (readNetwork f)

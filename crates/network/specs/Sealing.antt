@@ -20,6 +20,10 @@ use Rattle.board.specs.Sending.{top, spent, Framed, framed}
 use Rattle.seals.specs.Sealing.{longest, sealedFrame}
 use Rattle.board.specs.declared.Active.the-variants as actives
 
+-- "Network: identifier 1 and extended nonce"
+abbrev pub identifier : ℕ
+identifier = 1
+
 -- the auxiliary header and the tag of a secured network frame
 abbrev pub overhead : ℕ
 overhead = 14 + tagOctets
@@ -28,7 +32,8 @@ overhead = 14 + tagOctets
 unfoldable pub sealedUnder : Board → List ℕ → List ℕ → ℕ → Slot → Framed
 sealedUnder b f o h s =
     if eqb (b .outgoing) top then framed (turnedDown 7) b o
-    else framed (sealed (length f + overhead)) (spent b) (onto (sealedFrame (s .key) Network 1 (b .outgoing) (b .own) (s .seq) f h) o)
+    else framed (sealed (length f + overhead)) (spent b)
+    (onto (sealedFrame (s .key) Network identifier (b .outgoing) (b .own) (s .seq) f h) o)
 
 -- 6: "no present active slot"; there are slots 0 and 1
 unfoldable pub sealedBy : Board → List ℕ → List ℕ → ℕ → Active → Framed

@@ -1,7 +1,8 @@
 // Network frames: opening, sealing and looking.
+mod looking;
 mod opening;
 mod sealing;
 
-pub use opening::look_frame;
+pub use looking::look_frame;
 pub use opening::open_frame;
 pub use sealing::seal_frame;

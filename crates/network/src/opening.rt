@@ -11,13 +11,14 @@ use frames::Secured;
 use seals::Unsealed;
 ghost use mathlib.Core.Path.{_≡_};
 ghost use mathlib.Core.Bool.{true};
-ghost use Prim.Native.Nat.{_≤_, _<_};
+ghost use mathlib.Core.List.{List};
+ghost use Prim.Native.Nat.{ℕ, _≤_, _<_};
 ghost use lib.ListN.{length, getD};
 ghost use Rattle.answers.specs.Numbers.{toldOpened};
 ghost use Rattle.board.specs.Rows.{half};
 ghost use Rattle.board.specs.Requests.{slotOf};
-ghost use Rattle.seals.specs.Sealing.{messageOf, sound, looking};
-ghost use Rattle.network.specs.Opening.{gave, floorOf, rowFor, admitted, turnedAway, openedUnder, openedKeyed, openNetwork, lookedKeyed, lookNetwork};
+ghost use Rattle.seals.specs.Sealing.{messageOf, sound};
+ghost use Rattle.network.specs.Opening.{gave, floorOf, rowFor, admitted, openedUnder, openedKeyed, openNetwork};
 
 fn floor_at(floors: &[u32], r: usize) -> u32
     ensures { λ n. ⌜ n ≡ getD (now (floors .entry)) r 0 ⌝ }
@@ -58,11 +59,13 @@ fn admit(
     out: &mut [u8],
 ) -> Opened
     requires { ⌜ (sound (now f) s ≡ true) × ((116 ≤ length (now out)) × (s .counter < 4294967295)) ⌝ }
+    requires { ⌜ (r < length (now addrs)) × (r < length (now floors)) ⌝ }
     ensures { λ w. ⌜ gave (toldOpened w) (now (addrs .exit)) (now (floors .exit)) (now (out .exit)) ≡ admitted (now (f .entry)) s (now (addrs .entry)) (now (floors .entry)) (now (out .entry)) (messageOf key (now (f .entry)) s) (Place.At r) ⌝ }
 {
     match seals::unseal(key, Layer::Network, f, s, out) {
         Unsealed::Plain(n) => {
-            board::put_row(addrs, floors, r, s.sender, s.counter + 1);
+            addrs[r] = s.sender;
+            floors[r] = s.counter + 1;
             Opened::Frame(n, s.sender, Guard::Under(1))
         }
         Unsealed::Forged => Opened::Refused(Refusal::Forged),
@@ -71,7 +74,8 @@ fn admit(
 
 // A frame for which there is no row: 9 comes before 10.
 fn turn_away(key: [u8; 16], f: &[u8], s: Secured) -> Opened
-    ensures { λ w. ⌜ toldOpened w ≡ turnedAway (looking key (now (f .entry)) s) ⌝ }
+    requires { ⌜ sound (now f) s ≡ true ⌝ }
+    ensures { λ w. ⌜ ((al fl o : List ℕ) → gave (toldOpened w) al fl o ≡ admitted (now (f .entry)) s al fl o (messageOf key (now (f .entry)) s) Place.Absent) ⌝ }
 {
     if seals::look(key, f, s) {
         return Opened::Refused(Refusal::Full);
@@ -89,6 +93,7 @@ fn open_under(
     out: &mut [u8],
 ) -> Opened
     requires { ⌜ (sound (now f) s ≡ true) × ((116 ≤ length (now out)) × (i < 2)) ⌝ }
+    requires { ⌜ length (now addrs) ≡ length (now floors) ⌝ }
     ensures { λ w. ⌜ gave (toldOpened w) (now (addrs .exit)) (now (floors .exit)) (now (out .exit)) ≡ openedUnder half key i (now (f .entry)) s (now (addrs .entry)) (now (floors .entry)) (now (out .entry)) ⌝ }
 {
     if s.counter == 4294967295 {
@@ -111,7 +116,7 @@ fn open_keyed(
     floors: &mut [u32],
     out: &mut [u8],
 ) -> Opened
-    requires { ⌜ (sound (now f) s ≡ true) × (116 ≤ length (now out)) ⌝ }
+    requires { ⌜ (sound (now f) s ≡ true) × ((116 ≤ length (now out)) × (length (now addrs) ≡ length (now floors))) ⌝ }
     ensures { λ w. ⌜ gave (toldOpened w) (now (addrs .exit)) (now (floors .exit)) (now (out .exit)) ≡ openedKeyed half slots (now (f .entry)) s (now (addrs .entry)) (now (floors .entry)) (now (out .entry)) (slotOf slots (s .sequence)) ⌝ }
 {
     match board::slot_of(slots, s.sequence) {
@@ -154,33 +159,5 @@ pub fn open_frame(
             let slots = b.slots;
             open_keyed(slots, f, s, addrs, floors, out)
         }
-    }
-}
-
-// Whether the tag of a secured frame fits the key that is found for it, whatever its counter. It
-// changes nothing, and a frame that is not secured or finds no key fits none.
-pub fn look_frame(b: Board, f: &[u8]) -> bool
-    ensures { λ r. ⌜ r ≡ lookNetwork b (now (f .entry)) ⌝ }
-{
-    match frames::read_network(f) {
-        Read::Refused(_) => false,
-        Read::Plain(_) => false,
-        Read::Secured(s) => {
-            let slots = b.slots;
-            look_keyed(slots, f, s)
-        }
-    }
-}
-
-fn look_keyed(slots: [Slot; 2], f: &[u8], s: Secured) -> bool
-    ensures { λ r. ⌜ r ≡ lookedKeyed slots (now (f .entry)) s (slotOf slots (s .sequence)) ⌝ }
-{
-    match board::slot_of(slots, s.sequence) {
-        Place::At(i) => {
-            let slot = slots[i];
-            let key = slot.key;
-            seals::look(key, f, s)
-        }
-        Place::Absent => false,
     }
 }

@@ -12,12 +12,12 @@ ghost use mathlib.Core.Path.{_≡_};
 ghost use Prim.Native.Nat.{_≤_, _<_};
 ghost use lib.ListN.{length};
 ghost use Rattle.answers.specs.Numbers.{toldSealed};
-ghost use Rattle.board.specs.Sending.{framed, after};
+ghost use Rattle.board.specs.Sending.{withOutgoing, counterAfter, framed};
 ghost use Rattle.network.specs.Sealing.{sealedUnder, sealedBy, sealNetwork};
 
 fn seal_under(outgoing: u32, own: u64, s: Slot, f: &[u8], h: usize, out: &mut [u8]) -> Sealed
     requires { ⌜ ((2 ≤ h) × (h ≤ length (now f))) × ((length (now f) ≤ 98) × (116 ≤ length (now out))) ⌝ }
-    ensures { λ r. ⌜ ((b : Board) → b .outgoing ≡ outgoing → b .own ≡ own → framed (toldSealed r) (after (toldSealed r) b) (now (out .exit)) ≡ sealedUnder b (now (f .entry)) (now (out .entry)) h s) ⌝ }
+    ensures { λ r. ⌜ ((b : Board) → b .outgoing ≡ outgoing → b .own ≡ own → framed (toldSealed r) (withOutgoing b (counterAfter (toldSealed r) (b .outgoing))) (now (out .exit)) ≡ sealedUnder b (now (f .entry)) (now (out .entry)) h s) ⌝ }
 {
     if outgoing == 4294967295 {
         return Sealed::Refused(Refusal::Top);
@@ -39,7 +39,7 @@ fn seal_active(
     out: &mut [u8],
 ) -> Sealed
     requires { ⌜ ((2 ≤ h) × (h ≤ length (now f))) × ((length (now f) ≤ 98) × (116 ≤ length (now out))) ⌝ }
-    ensures { λ r. ⌜ ((b : Board) → b .slots ≡ slots → b .outgoing ≡ outgoing → b .own ≡ own → framed (toldSealed r) (after (toldSealed r) b) (now (out .exit)) ≡ sealedBy b (now (f .entry)) (now (out .entry)) h (Active.Slot i)) ⌝ }
+    ensures { λ r. ⌜ ((b : Board) → b .slots ≡ slots → b .outgoing ≡ outgoing → b .own ≡ own → framed (toldSealed r) (withOutgoing b (counterAfter (toldSealed r) (b .outgoing))) (now (out .exit)) ≡ sealedBy b (now (f .entry)) (now (out .entry)) h (Active.Slot i)) ⌝ }
 {
     if 1 < i {
         return Sealed::Refused(Refusal::NoKey);
@@ -61,7 +61,7 @@ fn seal_by(
     out: &mut [u8],
 ) -> Sealed
     requires { ⌜ ((2 ≤ h) × (h ≤ length (now f))) × ((length (now f) ≤ 98) × (116 ≤ length (now out))) ⌝ }
-    ensures { λ r. ⌜ ((b : Board) → b .slots ≡ slots → b .outgoing ≡ outgoing → b .own ≡ own → framed (toldSealed r) (after (toldSealed r) b) (now (out .exit)) ≡ sealedBy b (now (f .entry)) (now (out .entry)) h active) ⌝ }
+    ensures { λ r. ⌜ ((b : Board) → b .slots ≡ slots → b .outgoing ≡ outgoing → b .own ≡ own → framed (toldSealed r) (withOutgoing b (counterAfter (toldSealed r) (b .outgoing))) (now (out .exit)) ≡ sealedBy b (now (f .entry)) (now (out .entry)) h active) ⌝ }
 {
     match active {
         Active::Nobody => Sealed::Refused(Refusal::NoKey),
@@ -77,7 +77,7 @@ fn seal_read(
     f: &[u8],
     out: &mut [u8],
 ) -> Sealed
-    ensures { λ r. ⌜ ((b : Board) → b .slots ≡ slots → b .active ≡ active → b .outgoing ≡ outgoing → b .own ≡ own → framed (toldSealed r) (after (toldSealed r) b) (now (out .exit)) ≡ sealNetwork b (now (f .entry)) (now (out .entry))) ⌝ }
+    ensures { λ r. ⌜ ((b : Board) → b .slots ≡ slots → b .active ≡ active → b .outgoing ≡ outgoing → b .own ≡ own → framed (toldSealed r) (withOutgoing b (counterAfter (toldSealed r) (b .outgoing))) (now (out .exit)) ≡ sealNetwork b (now (f .entry)) (now (out .entry))) ⌝ }
 {
     if out.len() < 116 {
         return Sealed::Refused(Refusal::Room);

@@ -7,3 +7,4 @@ pub mod Tables
 pub mod Pasted
 pub mod AllOctets
 pub mod Numbers
+pub mod Parts

@@ -2,3 +2,4 @@ pub mod Choice
 pub mod Lists
 pub mod Least
 pub mod Addresses
+pub mod Parts

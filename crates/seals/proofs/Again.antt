@@ -1,22 +1,22 @@
 -- What sealing makes of a plain frame is read again as secured, with the fields that were sealed, and opens to that frame.
 -- Stated once, for both layers.
 -- Assumes nothing.
-use mathlib.Core.Path.{_≡_, refl, sym, ap, ap₂, _∙_}
+use mathlib.Core.Path.{_≡_, refl, ap, ap₂, _∙_}
 use mathlib.Core.Bool.{Bool, true, false}
 use mathlib.Core.List.{List, [], _∷_, _++_, append-assoc}
-use Prim.Native.Nat.{ℕ, zero, suc, _+_, _-_, _*_, _^_, _≤_, _<_}
+use Prim.Native.Nat.{ℕ, zero, suc, _+_, _^_, _≤_, _<_}
 use native.Mathlib.Omega.{arith}
 use lib.Dec.{eqb}
-use lib.ListN.{length, take, drop, set, length-append, length-drop, take-append-drop}
+use lib.ListN.{length, take, drop, set, take-append-drop}
 use lib.Seq.{take-at, drop-at}
-use borrow.Author.Tests.{eq-eqb, ne-eqb, le-leb}
+use borrow.Author.Tests.{eq-eqb, ne-eqb}
 use Rattle.octets.proofs.AllOctets.{nil-octets, cons-octets, tail-octets, append-octets, take-octets, drop-octets}
 use Rattle.octets.proofs.Numbers.{spelled-octets}
 use Rattle.octets.specs.Addresses.{noAddress}
 use Rattle.octets.specs.Choice.{if_then_else_}
 use Rattle.octets.specs.Least.{spelled}
-use Rattle.octets.specs.Lists.{at, onto, Octets}
-use Rattle.seals.specs.Sealing.{messageOf, genuine, plainFrame, sentOctets, sentHeader, sealedWith, sealedFrame, made, gave, unsealedOnto, unsealing, looking, sealable, sealing}
+use Rattle.octets.specs.Lists.{Octets}
+use Rattle.seals.specs.Sealing.{messageOf, genuine, plainFrame, sentOctets, sealedWith, sealedFrame, wrote, unsealedOnto, unsealing, looking, sealing}
 use Rattle.cipher.specs.Aes.{aes128}
 use Rattle.cipher.specs.Ccm.{ccmOpen, valid}
 use Rattle.cipher.proofs.Kept.{seal-octets}
@@ -24,18 +24,18 @@ use Rattle.cipher.proofs.RoundTrip.{aes-blocky, open-seal, seal-length}
 use Rattle.frames.specs.declared.Layer.{Layer}
 use Rattle.frames.specs.declared.Layer.the-variants.{Network, Aps}
 use Rattle.frames.specs.declared.Secured.{Secured}
-use Rattle.frames.specs.Security.{tagOctets, wireControl, numbered, auxLength, nonceOf, auxiliary}
+use Rattle.frames.specs.Security.{tagOctets, wireControl, nonceOf, auxiliary}
 use Rattle.frames.specs.Network.{networkKeyed}
 use Rattle.frames.specs.Aps.{apsKeyed}
-use Rattle.frames.specs.Making.{bitPlace, bitValue, raised, plainHeader, securedHeader}
-use Rattle.frames.specs.Reading.{plain, secured}
+use Rattle.frames.specs.Making.{bitPlace, bitValue, cleared, raised, plainHeader, securedHeader}
+use Rattle.frames.specs.Reading.{plain, secured, suits}
 use Rattle.frames.proofs.Controls.{wire-identifier, wire-extended}
-use Rattle.frames.proofs.Layers.{leastHeader, suits, reading, readingPlain}
+use Rattle.frames.proofs.Layers.{leastHeader, reading, readingPlain}
 use Rattle.frames.proofs.Found.{plain-to-seal}
-use Rattle.frames.proofs.Sent.{sent, numberSent, fieldsOf}
+use Rattle.frames.proofs.Sent.{fieldsOf}
 use Rattle.frames.proofs.ReadAgain.{read-sealed, plain-header-again}
 use Rattle.seals.proofs.Opened.{Sound, tells-sound, unsealing-is}
-use Rattle.seals.proofs.Securing.{headers, authentic, ciphered, headers-length, authentic-in}
+use Rattle.seals.proofs.Securing.{headers, authentic, ciphered, headers-length, authentic-in, sent-length, sealed-length, sealing-makes}
 
 -- ---- what may be sealed
 
@@ -63,52 +63,6 @@ suited-wire Network k u =
     let b : k < 4 = omega arith in simp (wire-identifier k b, wire-extended k b, eq-eqb k 1 u)
 suited-wire Aps k u = simp (wire-identifier k (u .0), ne-eqb k 1 (u .1))
 
--- ---- the auxiliary header that is sent
-
-module _ (k n s q : ℕ) where
-  pub sent-length : length (sentHeader k n s q) ≡ sentOctets k
-  unfolding sentHeader sentOctets auxiliary
-  sent-length = go (eqb k 1)
-    where
-      go : (t : Bool) → length (take (if t then 14 else 13) (auxiliary k n s q)) ≡ (if t then 14 else 13)
-      go true = refl
-      go false = refl
-
-  -- with what follows it, where only identifier 1 sends the key sequence number
-  abbrev behindSender : List ℕ → List ℕ
-  behindSender c = if eqb k 1 then q ∷ c else c
-
-  sent-is : (c : List ℕ) → sentHeader k n s q ++ c ≡ sent k n s (behindSender c)
-  unfolding sentHeader sentOctets auxiliary
-  sent-is c = go (eqb k 1)
-    where
-      go : (t : Bool) → take (if t then 14 else 13) (auxiliary k n s q) ++ c ≡ sent k n s (if t then q ∷ c else c)
-      go true = refl
-      go false = refl
-
-  number-sent : (c : List ℕ) → numberSent k (behindSender c) ≡ (if eqb k 1 then q else 0)
-  number-sent c = go (eqb k 1)
-    where
-      go : (t : Bool) → (if t then at (if t then q ∷ c else c) 0 else 0) ≡ (if t then q else 0)
-      go true = refl
-      go false = refl
-
-  behind-most : (c : List ℕ) → sentOctets k + length c ≤ 13 + length (behindSender c)
-  unfolding sentOctets
-  behind-most c = go (eqb k 1)
-    where
-      go : (t : Bool) → (if t then 14 else 13) + length c ≤ 13 + length (if t then q ∷ c else c)
-      go true = omega arith
-      go false = omega arith
-
-aux-sent : (k : ℕ) → k < 4 → auxLength (wireControl k) ≡ sentOctets k
-unfolding auxLength numbered sentOctets
-aux-sent k b = simp (wire-identifier k b, wire-extended k b) (go (eqb k 1))
-  where
-    go : (t : Bool) → 5 + 8 * 1 + (if t then 1 else 0) ≡ (if t then 14 else 13)
-    go true = refl
-    go false = refl
-
 -- ---- the secured frame, read and opened
 
 -- what it announces: its header is the plain frame's, and its fields are those that were sealed
@@ -131,7 +85,7 @@ module _ (key : List ℕ) (q : ℕ) {l : Layer} {f : List ℕ} {h k n s : ℕ} (
   low = suited-low l k (p .suited)
 
   abbrev x : List ℕ
-  x = sentHeader k n s q
+  x = auxiliary k n s q
 
   abbrev both-headers : List ℕ
   both-headers = headers l x f h
@@ -150,23 +104,15 @@ module _ (key : List ℕ) (q : ℕ) {l : Layer} {f : List ℕ} {h k n s : ℕ} (
   both-length : length both-headers ≡ h + sentOctets k
   both-length = headers-length l x f h (sentOctets k) (sent-length k n s q) within
 
-  body-length : length body ≡ length f - h + 4
-  body-length =
-      seal-length (aes128 key) tagOctets (nonceOf s n (wireControl k)) (authentic l x f h) (drop h f)
-      ∙ ap (λ (m : ℕ). m + 4) (length-drop h f)
-
   pub length-again : length (sealedFrame key l k n s q f h) ≡ length f + sentOctets k + 4
-  length-again =
-      let b = within in
-      ap length parts ∙ length-append both-headers body ∙ ap₂ (λ (u v : ℕ). u + v) both-length body-length ∙ omega arith
+  length-again = sealed-length key l k n s q f h within
 
   pub read-again : (a : ℕ) → reading l (sealedFrame key l k n s q f h) a ≡ secured (announcing h k n s q)
   read-again a =
-      let e = aux-sent k low in
-      ap (λ (g : List ℕ). reading l g a) (behind ∙ ap (λ (c : List ℕ). securedHeader l f h ++ c) (sent-is k n s q body))
-      ∙ read-sealed l f h (p .unsecured) (p .octets) k n s a (behindSender k n s q body) low (suited-wire l k (p .suited))
-      (p .counter) (p .sender) (p .someone) (omega (arith, behind-most k n s q body, body-length))
-      ∙ ap₂ (λ (m y : ℕ). secured (fieldsOf h m (wireControl k) n s y)) e (number-sent k n s q body)
+      ap (λ (g : List ℕ). reading l g a) behind
+      ∙ read-sealed l f h (p .unsecured) (p .octets) k n s q a body low (suited-wire l k (p .suited)) (p .counter) (p .sender) (p .someone)
+      (omega (arith, seal-length (aes128 key) tagOctets (nonceOf s n (wireControl k)) (authentic l x f h) (drop h f)))
+      ∙ ap (λ (m : ℕ). secured (fieldsOf h m (wireControl k) n s (if eqb k 1 then q else 0))) (sent-length k n s q)
 
   pub message-again : messageOf key (sealedFrame key l k n s q f h) (announcing h k n s q) ≡ valid (drop h f)
   unfolding messageOf
@@ -204,20 +150,15 @@ module _ (key : List ℕ) (q : ℕ) {l : Layer} {f : List ℕ} {h k n s : ℕ} (
     looking-again = simp (tells-sound (sealedFrame key l k n s q f h) (announcing h k n s q) sound-again, message-again)
 
     module _ (o : List ℕ) (room : 116 ≤ length o) where
-      pub sealing-again : sealing key l k n s q f h o
-          ≡ gave (made (length (sealedFrame key l k n s q f h))) (onto (sealedFrame key l k n s q f h) o)
-      unfolding sealing sealable sealedFrame
+      pub sealing-again : sealing key l k n s q f h o ≡ wrote (sealedFrame key l k n s q f h) o
       sealing-again =
-          let b : k ≤ 3 = omega (arith, low) in
-          simp (le-leb _ _ b, le-leb _ _ headed, le-leb _ _ within, le-leb _ _ short, le-leb _ _ room)
-          (ap (λ (m : ℕ). gave (made m) (onto (sealedFrame key l k n s q f h) o))
-          (ap (λ (m : ℕ). length f + m + 4) (sent-length k n s q) ∙ sym length-again))
+          sealing-makes key l k n s q f h o (omega (arith, low)) (record { headed = headed; within = within; short = short }) room
 
-      pub unsealing-again : unsealing key l (sealedFrame key l k n s q f h) (announcing h k n s q) o ≡ gave (made (length f)) (onto f o)
+      pub unsealing-again : unsealing key l (sealedFrame key l k n s q f h) (announcing h k n s q) o ≡ wrote f o
       unsealing-again =
           unsealing-is key l (sealedFrame key l k n s q f h) (announcing h k n s q) o sound-again room
           ∙ ap (unsealedOnto l (sealedFrame key l k n s q f h) (announcing h k n s q) o) message-again
-          ∙ ap₂ (λ (m : ℕ) (u : List ℕ). gave (made m) (onto u o)) (omega (arith, length-drop h f, within)) plain-again
+          ∙ ap (λ (u : List ℕ). wrote u o) plain-again
 
 -- ---- octets
 
@@ -227,7 +168,7 @@ set-octets (x ∷ s) zero v o b = cons-octets v s b (tail-octets o)
 set-octets (x ∷ s) (suc i) v o b = cons-octets x (set s i v) (o .octet 0) (set-octets s i v (tail-octets o) b)
 
 raised-octet : (l : Layer) (x : ℕ) → x < 256 → raised (bitValue l) x < 256
-unfolding raised
+unfolding raised cleared
 raised-octet Network x b = omega arith
 raised-octet Aps x b = omega arith
 
@@ -239,20 +180,22 @@ wire-octet : (k : ℕ) → k < 4 → wireControl k < 256
 unfolding wireControl
 wire-octet k b = omega arith
 
-sent-octets : (k n s q : ℕ) → k < 4 → q < 256 → Octets (sentHeader k n s q)
-unfolding sentHeader auxiliary
-sent-octets k n s q b d =
-    take-octets (sentOctets k) (auxiliary k n s q)
-    (cons-octets (wireControl k) _ (wire-octet k b)
-    (append-octets (spelled 4 n) _ (spelled-octets 4 n)
-    (append-octets (spelled 8 s) _ (spelled-octets 8 s) (cons-octets q [] d nil-octets))))
+aux-octets : (k n s q : ℕ) → k < 4 → q < 256 → Octets (auxiliary k n s q)
+unfolding auxiliary
+aux-octets k n s q b d =
+    cons-octets (wireControl k) _ (wire-octet k b)
+    (append-octets (spelled 4 n) _ (spelled-octets 4 n) (append-octets (spelled 8 s) _ (spelled-octets 8 s) (go (eqb k 1))))
+  where
+    go : (t : Bool) → Octets (if t then q ∷ [] else [])
+    go true = cons-octets q [] d nil-octets
+    go false = nil-octets
 
 pub octets-again : {l : Layer} {f : List ℕ} {h k n s : ℕ} (key : List ℕ) (q : ℕ) → ToSeal l f h k n s → Octets key → q < 256
     → Octets (sealedFrame key l k n s q f h)
 unfolding sealedFrame sealedWith
 octets-again {l} {f} {h} {k} {n} {s} key q p o b =
-    append-octets (headers l (sentHeader k n s q) f h) _
-    (append-octets (securedHeader l f h) (sentHeader k n s q) (secured-octets l f h (p .octets))
-    (sent-octets k n s q (suited-low l k (p .suited)) b))
-    (seal-octets key o tagOctets (nonceOf s n (wireControl k)) (authentic l (sentHeader k n s q) f h) (drop h f)
+    append-octets (headers l (auxiliary k n s q) f h) _
+    (append-octets (securedHeader l f h) (auxiliary k n s q) (secured-octets l f h (p .octets))
+    (aux-octets k n s q (suited-low l k (p .suited)) b))
+    (seal-octets key o tagOctets (nonceOf s n (wireControl k)) (authentic l (auxiliary k n s q) f h) (drop h f)
     (drop-octets h f (p .octets)))

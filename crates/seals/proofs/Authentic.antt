@@ -34,9 +34,8 @@ authenticated-front f g h n e = go (ltb h n) refl
         ∙ sym (set-out (take n g) h _ (simp length-take (omega arith)))
 
 -- the scratch z, once they are laid there, has them at its front
-pub scratch-front : (z a f : List ℕ) (h n : ℕ) → n ≤ length f → n ≤ length z → a ≡ laid z f n h (withLevel (at f h))
+pub scratch-front : (z a f : List ℕ) (h n : ℕ) → n ≤ length f → n ≤ length z → a ≡ laid z f n (authenticated f h n)
     → take n a ≡ authenticated f h n
-unfolding authenticated
 scratch-front z a f h n b d e =
-    ap (take n) (e ∙ laid-onto z f n h (withLevel (at f h)) b d)
+    ap (take n) (e ∙ laid-onto z f n (authenticated f h n) b d)
     ∙ take-at (authenticated f h n) (drop (length (authenticated f h n)) z) n (authenticated-length f h n b)

@@ -5,3 +5,4 @@ pub mod Looked
 pub mod Securing
 pub mod Again
 pub mod Tells
+pub mod One

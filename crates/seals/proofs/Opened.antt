@@ -6,12 +6,12 @@ use mathlib.Core.List.{List, _++_}
 use Prim.Native.Nat.{ℕ, _+_, _-_, _≤_}
 use native.Mathlib.Omega.{arith}
 use lib.Dec.{leb}
-use lib.ListN.{length, take, drop, length-drop, length-set, take-append-drop}
+use lib.ListN.{length, take, drop, length-append, length-drop, length-set, take-append-drop}
 use lib.Seq.{length-take-le}
 use borrow.Author.Tests.{leb-true, le-leb}
 use Rattle.octets.specs.Choice.{both}
-use Rattle.octets.specs.Lists.{at, onto}
-use Rattle.seals.specs.Sealing.{authenticatedOf, bodyOf, nonceFor, messageOf, plainFrame, gave, none, sound, unsealedOnto, unsealing, longest, made as Seals·made}
+use Rattle.octets.specs.Lists.{onto}
+use Rattle.seals.specs.Sealing.{authenticatedOf, bodyOf, nonceFor, messageOf, plainFrame, gave, sound, unsealedOnto, unsealing, longest, made as Seals·made, refused as Seals·refused}
 use Rattle.cipher.specs.Aes.{aes128}
 use Rattle.cipher.specs.Ccm.{Opened, valid, invalid}
 use Rattle.cipher.specs.declared.Fault.{Fault}
@@ -21,8 +21,8 @@ use Rattle.cipher.specs.Answers.{opening, openedOnto, made, refused, told, numb
 use Rattle.cipher.proofs.Lengths.{tag-four, opening-judged, valid-length}
 use Rattle.frames.specs.declared.Layer.{Layer}
 use Rattle.frames.specs.declared.Secured.{Secured}
-use Rattle.frames.specs.Security.{tagOctets, withLevel}
-use Rattle.frames.specs.Making.{bitPlace, bitValue, cleared, laid, plainHeader}
+use Rattle.frames.specs.Security.{tagOctets}
+use Rattle.frames.specs.Making.{laid, plainHeader}
 use Rattle.frames.proofs.Layings.{laid-onto}
 use Rattle.seals.proofs.Parts.{onto-more}
 use Rattle.seals.proofs.Authentic.{authenticated-length, scratch-front}
@@ -55,7 +55,7 @@ module _ (k : List ℕ) (l : Layer) (f : List ℕ) (s : Secured) (o : List ℕ) 
   auth-length = authenticated-length f (s .header) both-headers (let h = t .whole in omega arith)
 
   -- what the cipher was asked is what the definition asks
-  pub asked : (z a n : List ℕ) → length z ≡ 116 → a ≡ laid z f both-headers (s .header) (withLevel (at f (s .header))) → n ≡ nonceFor s
+  pub asked : (z a n : List ℕ) → length z ≡ 116 → a ≡ laid z f both-headers (authenticatedOf f s) → n ≡ nonceFor s
       → opening 4 k n (take both-headers a) (drop both-headers f) (drop (s .header) o) ≡ openedOnto (messageOf k f s) (drop (s .header) o)
   unfolding messageOf
   asked z a n e q en =
@@ -76,14 +76,18 @@ module _ (k : List ℕ) (l : Layer) (f : List ℕ) (s : Secured) (o : List ℕ) 
   unfolding plainHeader
   header-length = length-set (take (s .header) f) _ _ ∙ length-take-le (s .header) f (let h = t .whole in omega arith)
 
+  pub plain-length : (m : List ℕ) → length (plainFrame l f s m) ≡ s .header + length m
+  unfolding plainFrame
+  plain-length m = length-append (plainHeader l f (s .header)) m ∙ ap (λ (n : ℕ). n + length m) header-length
+
   -- the output once message and header are laid
   both-laid : (m p q : List ℕ) → drop (s .header) p ≡ onto m (drop (s .header) o) → length p ≡ length o
-      → q ≡ laid p f (s .header) (bitPlace l) (cleared (bitValue l) (at f (bitPlace l))) → q ≡ onto (plainFrame l f s m) o
-  unfolding plainFrame plainHeader
+      → q ≡ laid p f (s .header) (plainHeader l f (s .header)) → q ≡ onto (plainFrame l f s m) o
+  unfolding plainFrame
   both-laid m p q ep lp eq =
       let h = t .whole in
       let j = t .short in
-      eq ∙ laid-onto p f (s .header) (bitPlace l) (cleared (bitValue l) (at f (bitPlace l))) (omega arith) (omega arith)
+      eq ∙ laid-onto p f (s .header) (plainHeader l f (s .header)) (omega arith) (omega arith)
       ∙ ap (λ (x : List ℕ). plainHeader l f (s .header) ++ x)
       (ap (λ (n : ℕ). drop n p) header-length ∙ ep ∙ ap (λ (n : ℕ). onto m (drop n o)) (sym header-length))
       ∙ onto-more (plainHeader l f (s .header)) m o
@@ -112,8 +116,7 @@ module _ (k : List ℕ) (l : Layer) (f : List ℕ) (s : Secured) (o : List ℕ) 
   -- the cipher made n octets
   pub unsealed-made : (n : ℕ) (p q : List ℕ)
       → Cipher·gave (made n) (drop (s .header) p) ≡ openedOnto (messageOf k f s) (drop (s .header) o) → length p ≡ length o
-      → q ≡ laid p f (s .header) (bitPlace l) (cleared (bitValue l) (at f (bitPlace l)))
-      → gave (Seals·made (s .header + n)) q ≡ unsealing k l f s o
+      → q ≡ laid p f (s .header) (plainHeader l f (s .header)) → gave (Seals·made (s .header + n)) q ≡ unsealing k l f s o
   unsealed-made n p q e lp eq = go (messageOf k f s) e ∙ sym unsealing-is
     where
       go : (r : Opened) → Cipher·gave (made n) (drop (s .header) p) ≡ openedOnto r (drop (s .header) o)
@@ -122,7 +125,8 @@ module _ (k : List ℕ) (l : Layer) (f : List ℕ) (s : Secured) (o : List ℕ) 
           let a : made n ≡ made (length m) = ap (λ (x : Cipher·Outcome). x .answer) g in
           let u : n ≡ length m = cc in
           let b : drop (s .header) p ≡ onto m (drop (s .header) o) = ap (λ (x : Cipher·Outcome). x .octets) g in
-          ap₂ (λ (y : ℕ) (v : List ℕ). gave (Seals·made (s .header + y)) v) u (both-laid m p q b lp eq)
+          ap₂ (λ (y : ℕ) (v : List ℕ). gave (Seals·made y) v) (ap (λ (y : ℕ). s .header + y) u ∙ sym (plain-length m))
+          (both-laid m p q b lp eq)
       go invalid g =
           let a : made n ≡ refused 9 = ap (λ (x : Cipher·Outcome). x .answer) g in
           let z : _≡_ {A = ℕ} 0 1 = cc in
@@ -131,35 +135,38 @@ module _ (k : List ℕ) (l : Layer) (f : List ℕ) (s : Secured) (o : List ℕ) 
   -- the cipher refused
   pub unsealed-not : (n : ℕ) (p : List ℕ)
       → Cipher·gave (refused n) (drop (s .header) p) ≡ openedOnto (messageOf k f s) (drop (s .header) o)
-      → take (s .header) p ≡ take (s .header) o → gave none p ≡ unsealing k l f s o
+      → take (s .header) p ≡ take (s .header) o → gave (Seals·refused 9) p ≡ unsealing k l f s o
   unsealed-not n p e et = go (messageOf k f s) e ∙ sym unsealing-is
     where
       go : (r : Opened) → Cipher·gave (refused n) (drop (s .header) p) ≡ openedOnto r (drop (s .header) o)
-          → gave none p ≡ unsealedOnto l f s o r
+          → gave (Seals·refused 9) p ≡ unsealedOnto l f s o r
       go (valid m) g =
           let a : refused n ≡ made (length m) = ap (λ (x : Cipher·Outcome). x .answer) g in
           let z : _≡_ {A = ℕ} 0 1 = cc in
           absurd (omega arith)
       go invalid g =
           let b : drop (s .header) p ≡ drop (s .header) o = ap (λ (x : Cipher·Outcome). x .octets) g in
-          ap (gave none)
+          ap (gave (Seals·refused 9))
           (sym (take-append-drop (s .header) p) ∙ ap₂ (λ (u v : List ℕ). u ++ v) et b ∙ take-append-drop (s .header) o)
 
-  -- the same, of the answer and the outputs as the calls gave them
-  pub after-made : (r : Answer) (n : ℕ) (p q : List ℕ) (x : Cipher·Outcome) → r ≡ Made n → Cipher·gave (told r) (drop (s .header) p) ≡ x
-      → x ≡ openedOnto (messageOf k f s) (drop (s .header) o) → length p ≡ length o
-      → q ≡ laid p f (s .header) (bitPlace l) (cleared (bitValue l) (at f (bitPlace l)))
+-- what the cipher answered, r, and what it left in the output, p, are what the definition asks of it
+pub record Unseals (k f : List ℕ) (s : Secured) (o : List ℕ) (r : Answer) (p : List ℕ) : Type 0 where
+  pub fits : Sound f s
+  pub room : 116 ≤ length o
+  pub outcome : Cipher·gave (told r) (drop (s .header) p) ≡ openedOnto (messageOf k f s) (drop (s .header) o)
+
+-- what opening then answers
+module _ {k f : List ℕ} {s : Secured} {o : List ℕ} {r : Answer} {p : List ℕ} (u : Unseals k f s o r p) (l : Layer) where
+  by-answer : (a : Answer) → r ≡ a → Cipher·gave (told a) (drop (s .header) p) ≡ openedOnto (messageOf k f s) (drop (s .header) o)
+  by-answer a e = ap (λ (x : Answer). Cipher·gave (told x) (drop (s .header) p)) (sym e) ∙ u .outcome
+
+  pub after-length : (n : ℕ) → r ≡ Made n → n ≡ length f - (s .header + s .aux) - 4
+  after-length n e = made-length k l f s o (u .fits) (u .room) n _ _ (by-answer (Made n) e)
+
+  pub after-made : (n : ℕ) (q : List ℕ) → r ≡ Made n → length p ≡ length o → q ≡ laid p f (s .header) (plainHeader l f (s .header))
       → gave (Seals·made (s .header + n)) q ≡ unsealing k l f s o
-  after-made r n p q x er e w lp eq =
-      unsealed-made n p q (ap (λ (v : Answer). Cipher·gave (told v) (drop (s .header) p)) (sym er) ∙ e ∙ w) lp eq
+  after-made n q e lp eq = unsealed-made k l f s o (u .fits) (u .room) n p q (by-answer (Made n) e) lp eq
 
-  pub after-length : (r : Answer) (n : ℕ) (p : List ℕ) (x : Cipher·Outcome) → r ≡ Made n → Cipher·gave (told r) (drop (s .header) p) ≡ x
-      → x ≡ openedOnto (messageOf k f s) (drop (s .header) o) → n ≡ length f - both-headers - 4
-  after-length r n p x er e w =
-      made-length n (drop (s .header) p) (drop (s .header) o) (ap (λ (v : Answer). Cipher·gave (told v) (drop (s .header) p)) (sym er) ∙ e ∙ w)
-
-  pub after-not : (r : Answer) (v : Fault) (p : List ℕ) (x : Cipher·Outcome) → r ≡ Refused v → Cipher·gave (told r) (drop (s .header) p) ≡ x
-      → x ≡ openedOnto (messageOf k f s) (drop (s .header) o) → take (s .header) p ≡ take (s .header) o
-      → gave none p ≡ unsealing k l f s o
-  after-not r v p x er e w et =
-      unsealed-not (number v) p (ap (λ (y : Answer). Cipher·gave (told y) (drop (s .header) p)) (sym er) ∙ e ∙ w) et
+  pub after-not : (v : Fault) → r ≡ Refused v → take (s .header) p ≡ take (s .header) o
+      → gave (Seals·refused 9) p ≡ unsealing k l f s o
+  after-not v e et = unsealed-not k l f s o (u .fits) (u .room) (number v) p (by-answer (Refused v) e) et

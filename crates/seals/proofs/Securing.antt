@@ -1,6 +1,6 @@
 -- Sealing a plain frame, of what its calls answered.
 -- Assumes nothing.
-use mathlib.Core.Path.{_≡_, refl, sym, ap, ap₂, _∙_}
+use mathlib.Core.Path.{_≡_, sym, ap, ap₂, _∙_}
 use mathlib.Core.Bool.{true}
 use mathlib.Core.List.{List, _++_}
 use Prim.Native.Nat.{ℕ, _+_, _-_, _%_, _≤_}
@@ -10,8 +10,8 @@ use lib.ListN.{length, take, drop, length-drop, length-set, length-append}
 use lib.Seq.{take-all, length-take-le}
 use borrow.Author.Tests.{leb-true, le-leb}
 use Rattle.octets.proofs.Tabs.{length-onto}
-use Rattle.octets.specs.Lists.{at, onto, pasted}
-use Rattle.seals.specs.Sealing.{sentOctets, sentHeader, sealedWith, gave, longest, sealable, sealedOnto, made as Seals·made, sealing as Seals·sealing}
+use Rattle.octets.specs.Lists.{onto, pasted}
+use Rattle.seals.specs.Sealing.{sentOctets, sealedWith, sealedFrame, gave, wrote, longest, sealable, made as Seals·made, sealing as Seals·sealing}
 use Rattle.cipher.specs.Aes.{aes128}
 use Rattle.cipher.specs.Ccm.{ccmSeal}
 use Rattle.cipher.specs.declared.Fault.{Fault}
@@ -19,10 +19,12 @@ use Rattle.cipher.specs.declared.Answer.{Answer}
 use Rattle.cipher.specs.declared.Answer.the-variants.{Made, Refused}
 use Rattle.cipher.specs.Answers.{sealing, made, told, Outcome as Cipher·Outcome, gave as Cipher·gave}
 use Rattle.cipher.proofs.Lengths.{tag-four, sealing-made}
+use Rattle.cipher.proofs.RoundTrip.{seal-length}
 use Rattle.frames.specs.declared.Layer.{Layer}
-use Rattle.frames.specs.Security.{tagOctets, wireControl, withLevel, nonceOf, authenticated, auxiliary}
-use Rattle.frames.specs.Making.{bitPlace, bitValue, raised, laid, securedHeader}
+use Rattle.frames.specs.Security.{tagOctets, wireControl, nonceOf, authenticated, auxiliary}
+use Rattle.frames.specs.Making.{laid, securedHeader}
 use Rattle.frames.proofs.Layings.{laid-onto}
+use Rattle.frames.proofs.Sent.{aux-octets}
 use Rattle.seals.proofs.Parts.{front, written-behind, pasted-behind}
 use Rattle.seals.proofs.Opened.{both-true}
 use Rattle.seals.proofs.Authentic.{authenticated-length, authenticated-front, scratch-front}
@@ -60,18 +62,15 @@ module _ (l : Layer) (x f : List ℕ) (h w : ℕ) (wide : length x ≡ w) (withi
 
 module _ (key nonce : List ℕ) (l : Layer) (x f : List ℕ) (h w : ℕ) (wide : length x ≡ w) (within : h ≤ length f)
     (o : List ℕ) (short : length f + w + 4 ≤ 116) (room : 116 ≤ length o) where
-  headers-laid : (p q : List ℕ) → p ≡ laid o f h (bitPlace l) (raised (bitValue l) (at f (bitPlace l))) → q ≡ pasted p h x
-      → q ≡ onto (headers l x f h) o
-  unfolding securedHeader
+  headers-laid : (p q : List ℕ) → p ≡ laid o f h (securedHeader l f h) → q ≡ pasted p h x → q ≡ onto (headers l x f h) o
   headers-laid p q ep eq =
-      let e : p ≡ onto (securedHeader l f h) o =
-      ep ∙ laid-onto o f h (bitPlace l) (raised (bitValue l) (at f (bitPlace l))) within (omega arith) in
+      let e : p ≡ onto (securedHeader l f h) o = ep ∙ laid-onto o f h (securedHeader l f h) within (omega arith) in
       let n = header-length l x f h w wide within in
       let b : length p ≡ length o = ap length e ∙ length-onto (securedHeader l f h) o (omega arith) in
       pasted-behind (securedHeader l f h) o p h n e x q (omega arith) eq
 
   -- what the cipher was asked is what the definition asks
-  asked : (q z a : List ℕ) → q ≡ onto (headers l x f h) o → length z ≡ 116 → a ≡ laid z q (h + w) h (withLevel (at q h))
+  asked : (q z a : List ℕ) → q ≡ onto (headers l x f h) o → length z ≡ 116 → a ≡ laid z q (h + w) (authenticated q h (h + w))
       → sealing 4 key nonce (take (h + w) a) (drop h f) (drop (h + w) q)
       ≡ Cipher·gave (made (length f - h + 4)) (onto (ciphered key nonce l x f h) (drop (h + w) q))
   asked q z a eq ez ea =
@@ -85,58 +84,25 @@ module _ (key nonce : List ℕ) (l : Layer) (x f : List ℕ) (h w : ℕ) (wide :
       (drop h f) (drop (h + w) q) (omega arith) (omega (arith, length-drop (h + w) q))
       ∙ ap (λ (n : ℕ). Cipher·gave (made (n + 4)) (onto (ciphered key nonce l x f h) (drop (h + w) q))) d
 
--- the length of ciphertext and tag as the answer r, and the secured frame in the output v
-pub record Secures (key nonce : List ℕ) (l : Layer) (aux : List ℕ) (x : ℕ) (f : List ℕ) (h : ℕ) (o : List ℕ) (r : Answer) (v : List ℕ)
-    : Type 0 where
-  pub within : h ≤ length f
-  pub wide : length (take x aux) ≡ x
-  pub answer : told r ≡ made (length f - h + 4)
-  pub output : v ≡ onto (sealedWith key nonce l (take x aux) f h) o
+  -- of the outputs p, q and v, the scratch z and a, and the answer r, as the calls gave them
+  secured-by : (z : List ℕ) (r : Answer) {p q a v : List ℕ}
+      → p ≡ laid o f h (securedHeader l f h)
+      → q ≡ pasted p h x
+      → length z ≡ 116
+      → a ≡ laid z q (h + w) (authenticated q h (h + w))
+      → Cipher·gave (told r) (drop (h + w) v) ≡ sealing 4 key nonce (take (h + w) a) (drop h f) (drop (h + w) q)
+      → take (h + w) v ≡ take (h + w) q
+      → (told r ≡ made (length f - h + 4)) × (v ≡ onto (sealedWith key nonce l x f h) o)
+  unfolding sealedWith
+  secured-by z r {p} {q} {a} {v} ep eq ez ea er et =
+      let e = headers-laid p q ep eq in
+      let g = er ∙ asked q z a e ez ea in (
+        ap (λ (u : Cipher·Outcome). u .answer) g,
+        written-behind (headers l x f h) o q (h + w) (headers-length l x f h w wide within) e (ciphered key nonce l x f h) v et
+            (ap (λ (u : Cipher·Outcome). u .octets) g),
+      )
 
--- of the outputs p, q and v, the scratch z and a, and the answer r, as the calls gave them
-pub sealed-by : (key nonce : List ℕ) (l : Layer) (aux : List ℕ) (x : ℕ) (f : List ℕ) (h : ℕ) (o z : List ℕ)
-    → x ≤ length aux → (h ≤ length f) × ((length f + x + 4 ≤ 116) × (116 ≤ length o))
-    → {p q a v : List ℕ} {r : Answer}
-    → p ≡ laid o f h (bitPlace l) (raised (bitValue l) (at f (bitPlace l)))
-    → q ≡ pasted p h (take x aux)
-    → length z ≡ 116
-    → a ≡ laid z q (h + x) h (withLevel (at q h))
-    → Cipher·gave (told r) (drop (h + x) v) ≡ sealing 4 key nonce (take (h + x) a) (drop h f) (drop (h + x) q)
-    → take (h + x) v ≡ take (h + x) q
-    → Secures key nonce l aux x f h o r v
-unfolding sealedWith
-sealed-by key nonce l aux x f h o z d b {p} {q} {a} {v} ep eq ez ea er et =
-    let w : length (take x aux) ≡ x = length-take-le x aux d in
-    let e = headers-laid key nonce l (take x aux) f h x w (b .0) o (b .1 .0) (b .1 .1) p q ep eq in
-    let g = er ∙ asked key nonce l (take x aux) f h x w (b .0) o (b .1 .0) (b .1 .1) q z a e ez ea in
-    record {
-      within = b .0;
-      wide = w;
-      answer = ap (λ (u : Cipher·Outcome). u .answer) g;
-      output =
-          written-behind (headers l (take x aux) f h) o q (h + x) (headers-length l (take x aux) f h x w (b .0)) e
-          (ciphered key nonce l (take x aux) f h) v et (ap (λ (u : Cipher·Outcome). u .octets) g);
-    }
-
--- what sealing then answers
-module _ {key nonce : List ℕ} {l : Layer} {aux : List ℕ} {x : ℕ} {f : List ℕ} {h : ℕ} {o : List ℕ} {r : Answer} {v : List ℕ}
-    (s : Secures key nonce l aux x f h o r v) where
-  pub after-length : (n : ℕ) → r ≡ Made n → n ≡ length f - h + 4
-  after-length n er = let b : told (Made n) ≡ made (length f - h + 4) = ap told (sym er) ∙ s .answer in cc
-
-  pub after-made : (n : ℕ) → r ≡ Made n → gave (Seals·made (h + x + n)) v ≡ sealedOnto key nonce l (take x aux) f h o
-  after-made n er =
-      let c : h + x + n ≡ length f + length (take x aux) + tagOctets = omega (arith, after-length n er, s .wide, s .within) in
-      ap₂ (λ (m : ℕ) (u : List ℕ). gave (Seals·made m) u) c (s .output)
-
-  -- the cipher does not refuse
-  pub after-not : {A : Type 0} (t : Fault) → r ≡ Refused t → A
-  after-not t er =
-      let b : told (Refused t) ≡ made (length f - h + 4) = ap told (sym er) ∙ s .answer in
-      let z : _≡_ {A = ℕ} 0 1 = cc in
-      absurd (omega arith)
-
--- ---- a frame that can be sealed
+-- ---- a frame that can be sealed, and what sealing makes of it
 
 pub record Sealable (k : ℕ) (f : List ℕ) (h : ℕ) : Type 0 where
   pub headed : 2 ≤ h
@@ -150,20 +116,81 @@ sealable-tells k f h e =
     let q = both-true (leb h (length f)) (leb (length f + sentOctets k + tagOctets) longest) (p .1) in
     record { headed = leb-true _ _ (p .0); within = leb-true _ _ (q .0); short = leb-true _ _ (q .1) }
 
-first-control : (k counter sender seq : ℕ) → at (auxiliary k counter sender seq) 0 ≡ wireControl k
-unfolding auxiliary
-first-control k counter sender seq = refl
+pub sent-length : (k n a q : ℕ) → length (auxiliary k n a q) ≡ sentOctets k
+unfolding sentOctets
+sent-length k n a q = aux-octets k n a q
 
--- what was sealed with the auxiliary header and the nonce that the calls gave
-pub sealing-by : (key : List ℕ) (l : Layer) (k counter sender seq : ℕ) (f : List ℕ) (h : ℕ) (o : List ℕ) {aux nonce : List ℕ} {x : ℕ}
-    → k ≤ 3 → sealable k f h ≡ true → 116 ≤ length o
-    → aux ≡ auxiliary (k % 4) counter sender seq → nonce ≡ nonceOf sender counter (at aux 0) → x ≡ sentOctets k
-    → sealedOnto key nonce l (take x aux) f h o ≡ Seals·sealing key l k counter sender seq f h o
-unfolding Seals·sealing sentHeader
-sealing-by key l k counter sender seq f h o {aux} {nonce} {x} b s room ea en ex =
-    let e : aux ≡ auxiliary k counter sender seq =
-    ea ∙ ap (λ (i : ℕ). auxiliary i counter sender seq) (omega arith) in
-    let n : nonce ≡ nonceOf sender counter (wireControl k) =
-    en ∙ ap (nonceOf sender counter) (ap (λ (u : List ℕ). at u 0) e ∙ first-control k counter sender seq) in
-    ap₂ (λ (u v : List ℕ). sealedOnto key u l v f h o) n (ap₂ take ex e)
-    ∙ simp (le-leb _ _ b, s, le-leb _ _ room)
+module _ (key : List ℕ) (l : Layer) (k n a q : ℕ) (f : List ℕ) (h : ℕ) where
+  pub sealed-length : h ≤ length f → length (sealedFrame key l k n a q f h) ≡ length f + sentOctets k + 4
+  unfolding sealedFrame sealedWith
+  sealed-length b =
+      let x = auxiliary k n a q in
+      let m = nonceOf a n (wireControl k) in
+      length-append (headers l x f h) (ciphered key m l x f h)
+      ∙ ap₂ (λ (u v : ℕ). u + v) (headers-length l x f h (sentOctets k) (sent-length k n a q) b)
+      (seal-length (aes128 key) tagOctets m (authentic l x f h) (drop h f) ∙ ap (λ (u : ℕ). u + 4) (length-drop h f))
+      ∙ omega arith
+
+  -- a frame that may be sealed, w octets of auxiliary header, the length of ciphertext and tag as the answer r, and the
+  -- secured frame at the start of the output, which was o and is v
+  pub record Secures (o : List ℕ) (w : ℕ) (r : Answer) (v : List ℕ) : Type 0 where
+    pub low : k ≤ 3
+    pub fits : Sealable k f h
+    pub room : 116 ≤ length o
+    pub wide : w ≡ sentOctets k
+    pub answer : told r ≡ made (length f - h + 4)
+    pub output : v ≡ onto (sealedFrame key l k n a q f h) o
+
+  module _ (o : List ℕ) (low : k ≤ 3) (t : Sealable k f h) (room : 116 ≤ length o) where
+    pub sealing-makes : Seals·sealing key l k n a q f h o ≡ wrote (sealedFrame key l k n a q f h) o
+    unfolding Seals·sealing sealable
+    sealing-makes =
+        simp (le-leb _ _ low, le-leb _ _ (t .headed), le-leb _ _ (t .within), le-leb _ _ (t .short), le-leb _ _ room)
+
+    -- of what the calls gave: outputs p, u and v, scratch z and s, control c, nonce m, answer r
+    pub sealed-by : (z : List ℕ) {w c : ℕ} {m p u s v : List ℕ} {r : Answer}
+        → w ≡ sentOctets k
+        → p ≡ laid o f h (securedHeader l f h)
+        → u ≡ pasted p h (auxiliary (k % 4) n a q)
+        → length z ≡ 116
+        → s ≡ laid z u (h + w) (authenticated u h (h + w))
+        → c ≡ wireControl (k % 4)
+        → m ≡ nonceOf a n c
+        → Cipher·gave (told r) (drop (h + w) v) ≡ sealing 4 key m (take (h + w) s) (drop h f) (drop (h + w) u)
+        → take (h + w) v ≡ take (h + w) u
+        → Secures o w r v
+    unfolding sealedFrame
+    sealed-by z {w} {c} {m} {p} {u} {s} {v} {r} ew ep eu ez es ec em er et =
+        let two : k % 4 ≡ k = omega arith in
+        let en : m ≡ nonceOf a n (wireControl k) = em ∙ ap (nonceOf a n) (ec ∙ ap wireControl two) in
+        let x = auxiliary k n a q in
+        let b = secured-by key m l x f h w (sent-length k n a q ∙ sym ew) (t .within) o (omega (arith, t .short)) room z r ep
+        (eu ∙ ap (λ (i : ℕ). pasted p h (auxiliary i n a q)) two) ez es er et in
+        record {
+          low = low;
+          fits = t;
+          room = room;
+          wide = ew;
+          answer = b .0;
+          output = b .1 ∙ ap (λ (y : List ℕ). onto (sealedWith key y l x f h) o) en;
+        }
+
+-- what sealing then answers
+module _ {key : List ℕ} {l : Layer} {k n a q : ℕ} {f : List ℕ} {h : ℕ} {o : List ℕ} {w : ℕ} {r : Answer} {v : List ℕ}
+    (s : Secures key l k n a q f h o w r v) where
+  pub after-length : (i : ℕ) → r ≡ Made i → i ≡ length f - h + 4
+  after-length i er = let b : told (Made i) ≡ made (length f - h + 4) = ap told (sym er) ∙ s .answer in cc
+
+  pub after-made : (i : ℕ) → r ≡ Made i → gave (Seals·made (h + w + i)) v ≡ Seals·sealing key l k n a q f h o
+  after-made i er =
+      let d = sealed-length key l k n a q f h (s .fits .within) in
+      let c : h + w + i ≡ length (sealedFrame key l k n a q f h) = omega (arith, after-length i er, s .wide, s .fits .within) in
+      ap₂ (λ (j : ℕ) (u : List ℕ). gave (Seals·made j) u) c (s .output)
+      ∙ sym (sealing-makes key l k n a q f h o (s .low) (s .fits) (s .room))
+
+  -- the cipher does not refuse
+  pub after-not : {A : Type 0} (e : Fault) → r ≡ Refused e → A
+  after-not e er =
+      let b : told (Refused e) ≡ made (length f - h + 4) = ap told (sym er) ∙ s .answer in
+      let z : _≡_ {A = ℕ} 0 1 = cc in
+      absurd (omega arith)

@@ -5,7 +5,7 @@ use mathlib.Core.Bool.{Bool, true, false}
 use mathlib.Core.List.{List, _++_}
 use Prim.Native.Nat.{ℕ, _+_}
 use lib.Dec.{eqb, leb}
-use lib.ListN.{length, take, drop}
+use lib.ListN.{length, drop}
 use Rattle.octets.specs.Choice.{if_then_else_, both}
 use Rattle.octets.specs.Lists.{onto}
 use Rattle.seals.specs.declared.Unsealed.{Unsealed}
@@ -49,12 +49,9 @@ plainFrame l f s m = plainHeader l f (s .header) ++ m
 
 -- ---- sealing
 
--- only identifier 1 sends a key sequence number: 14 octets, and 13 for the others
+-- the octets of the auxiliary header that is sent: "Network: identifier 1 .., 14 octets", and APS "13 octets"
 unfoldable pub sentOctets : ℕ → ℕ
 sentOctets k = if eqb k 1 then 14 else 13
-
-unfoldable pub sentHeader : ℕ → ℕ → ℕ → ℕ → List ℕ
-sentHeader k counter sender seq = take (sentOctets k) (auxiliary k counter sender seq)
 
 -- the secured frame of a plain frame f with h octets of header: header, auxiliary header x, ciphertext and tag
 unfoldable pub sealedWith : List ℕ → List ℕ → Layer → List ℕ → List ℕ → ℕ → List ℕ
@@ -64,21 +61,25 @@ sealedWith key n l x f h =
 
 unfoldable pub sealedFrame : List ℕ → Layer → ℕ → ℕ → ℕ → ℕ → List ℕ → ℕ → List ℕ
 sealedFrame key l k counter sender seq f h =
-    sealedWith key (nonceOf sender counter (wireControl k)) l (sentHeader k counter sender seq) f h
+    sealedWith key (nonceOf sender counter (wireControl k)) l (auxiliary k counter sender seq) f h
 
 -- ---- what the routines tell and leave
 
+-- the length of the frame that was made, or the number of a refusal
 pub data Told : Type 0 where
   made : ℕ → Told
-  none : Told
+  refused : ℕ → Told
 
+-- "9: tag wrong". A frame that is not what was announced has no tag that fits; the layers judge it, and the output, before.
 abbrev pub toldUnsealed : Unsealed → Told
 toldUnsealed (Plain n) = made n
-toldUnsealed Forged = none
+toldUnsealed Forged = refused 9
 
+-- "14: request argument not allowed": an identifier above 3, a header that the frame does not have, no room. The layers
+-- judge all three before.
 abbrev pub toldSealed : Sealed → Told
 toldSealed (Octets n) = made n
-toldSealed Nothing = none
+toldSealed Nothing = refused 14
 
 pub record Outcome : Type 0 where
   pub answer : Told
@@ -86,6 +87,10 @@ pub record Outcome : Type 0 where
 
 abbrev pub gave : Told → List ℕ → Outcome
 gave t o = record { answer = t; out = o }
+
+-- a frame written "at the start of the output; octets after it stay", and its length told
+abbrev pub wrote : List ℕ → List ℕ → Outcome
+wrote f o = gave (made (length f)) (onto f o)
 
 -- the longest frame, and so the room that every output has
 abbrev pub longest : ℕ
@@ -96,12 +101,12 @@ unfoldable pub sound : List ℕ → Secured → Bool
 sound f s = both (leb 2 (s .header)) (both (leb (s .header + s .aux + tagOctets) (length f)) (leb (length f) longest))
 
 abbrev pub unsealedOnto : Layer → List ℕ → Secured → List ℕ → Opened → Outcome
-unsealedOnto l f s o (valid m) = gave (made (s .header + length m)) (onto (plainFrame l f s m) o)
-unsealedOnto l f s o invalid = gave none o
+unsealedOnto l f s o (valid m) = wrote (plainFrame l f s m) o
+unsealedOnto l f s o invalid = gave (refused 9) o
 
 unfoldable pub unsealing : List ℕ → Layer → List ℕ → Secured → List ℕ → Outcome
 unsealing k l f s o =
-    if both (sound f s) (leb longest (length o)) then unsealedOnto l f s o (messageOf k f s) else gave none o
+    if both (sound f s) (leb longest (length o)) then unsealedOnto l f s o (messageOf k f s) else gave (refused 9) o
 
 unfoldable pub looking : List ℕ → List ℕ → Secured → Bool
 looking k f s = both (sound f s) (genuine k f s)
@@ -110,12 +115,9 @@ looking k f s = both (sound f s) (genuine k f s)
 unfoldable pub sealable : ℕ → List ℕ → ℕ → Bool
 sealable k f h = both (leb 2 h) (both (leb h (length f)) (leb (length f + sentOctets k + tagOctets) longest))
 
-abbrev pub sealedOnto : List ℕ → List ℕ → Layer → List ℕ → List ℕ → ℕ → List ℕ → Outcome
-sealedOnto key n l x f h o = gave (made (length f + length x + tagOctets)) (onto (sealedWith key n l x f h) o)
-
 -- nothing is made for an identifier that two bits do not hold
 unfoldable pub sealing : List ℕ → Layer → ℕ → ℕ → ℕ → ℕ → List ℕ → ℕ → List ℕ → Outcome
 sealing key l k counter sender seq f h o =
     if both (leb k 3) (both (sealable k f h) (leb longest (length o)))
-    then sealedOnto key (nonceOf sender counter (wireControl k)) l (sentHeader k counter sender seq) f h o
-    else gave none o
+    then wrote (sealedFrame key l k counter sender seq f h) o
+    else gave (refused 14) o

@@ -3,22 +3,23 @@ use cipher::Answer;
 use frames::Layer;
 use frames::Secured;
 ghost use mathlib.Core.Path.{_≡_};
-ghost use Prim.Native.Nat.{_+_, _≤_};
+ghost use Prim.Native.Nat.{_≤_};
 ghost use mathlib.Core.Bool.{true};
 ghost use lib.ListN.{length, take, drop};
 ghost use Rattle.cipher.specs.Answers.{told, opening};
 ghost use Rattle.cipher.specs.Answers.{gave as Cipher·gave, sealing as Cipher·sealing};
-ghost use Rattle.seals.specs.Sealing.{sound, sentOctets, toldUnsealed, toldSealed, gave, unsealing, looking, sealable, sealedOnto};
+ghost use Rattle.seals.specs.Sealing.{sound, sentOctets, toldUnsealed, toldSealed, gave, unsealing, looking, sealable};
 ghost use Rattle.seals.specs.Sealing.{sealing as Sealed·sealing};
 
-// The octets of the frame that was made, or that none was: a tag that doesn't fit, or a frame that
-// is not what was announced.
+// The length of the plain frame that was made; or 9, tag wrong. So are told, too, a frame that is
+// not what was announced and an output under 116 octets, which the layers judge before.
 pub enum Unsealed {
     Plain(usize),
     Forged,
 }
 
-// The octets of the secured frame that was made, or that none was.
+// The length of the secured frame that was made; or 14, argument not allowed: an identifier above
+// 3, a header that the frame does not have, no room.
 pub enum Sealed {
     Octets(usize),
     Nothing,
@@ -155,30 +156,30 @@ pub fn seal(
     if out.len() < 116 {
         return Sealed::Nothing;
     }
-    let aux = frames::auxiliary_header(identifier, counter, sender, sequence);
-    let nonce = frames::nonce(sender, counter, aux[0]);
-    seal_under(key, nonce, l, aux, sent_octets(identifier), f, h, out)
+    seal_sound(key, l, identifier, counter, sender, sequence, f, h, out)
 }
 
 // Both headers, then the cipher's part behind them.
-fn seal_under(
+fn seal_sound(
     key: [u8; 16],
-    nonce: [u8; 13],
     l: Layer,
-    aux: [u8; 14],
-    x: usize,
+    identifier: u8,
+    counter: u32,
+    sender: u64,
+    sequence: u8,
     f: &[u8],
     h: usize,
     out: &mut [u8],
 ) -> Sealed
-    requires { ⌜ ((x ≤ 14) × (2 ≤ h)) × ((h ≤ length (now f)) × ((length (now f) + x + 4 ≤ 116) × (116 ≤ length (now out)))) ⌝ }
-    ensures { λ r. ⌜ gave (toldSealed r) (now (out .exit)) ≡ sealedOnto key nonce l (take x aux) (now (f .entry)) h (now (out .entry)) ⌝ }
+    requires { ⌜ (identifier ≤ 3) × ((sealable identifier (now f) h ≡ true) × (116 ≤ length (now out))) ⌝ }
+    ensures { λ r. ⌜ gave (toldSealed r) (now (out .exit)) ≡ Sealed·sealing key l identifier counter sender sequence (now (f .entry)) h (now (out .entry)) ⌝ }
 {
-    let n = h + x;
+    let n = h + sent_octets(identifier);
     frames::lay_secured_header(out, l, f, h);
-    octets::paste_at(out, h, &aux[..x]);
+    frames::lay_auxiliary(out, h, identifier, counter, sender, sequence);
     let mut a = [0u8; 116];
     frames::lay_authenticated(&mut a, out, h, n);
+    let nonce = frames::nonce(sender, counter, frames::wire_control(identifier));
     match seal_body(key, nonce, &a[..n], f, h, n, out) {
         Answer::Made(m) => Sealed::Octets(n + m),
         Answer::Refused(_) => Sealed::Nothing,

@@ -8,12 +8,12 @@ use native.Mathlib.Nat.{not-suc-le-zero}
 use native.Mathlib.Numerals.{add-one}
 use native.Mathlib.Omega.{arith}
 use lib.Dec.{eqb}
-use lib.ListN.{length, getD, take, drop, drop-of-length-le}
+use lib.ListN.{length, getD, take, drop, drop-of-length-le, length-drop}
 use lib.Seq.{drop-drop}
 use borrow.Author.Tests.{eq-eqb, ne-eqb}
 use Rattle.octets.specs.Choice.{if_then_else_}
 use Rattle.octets.specs.Lists.{eqList}
-use Rattle.text.specs.Fields.{until, after, behind, fieldAt, tabs, whichOf}
+use Rattle.text.specs.Fields.{until, after, behind, fieldAt, fieldFrom, tabs, whichOf}
 use Rattle.text.proofs.Reading.{one}
 
 module _ (l : List ℕ) (i : ℕ) where
@@ -83,6 +83,11 @@ pub behind-none : (k : ℕ) → behind k [] ≡ []
 unfolding behind after
 behind-none zero = refl
 behind-none (suc k) = behind-none k
+
+-- where a field starts
+pub field-from : (l : List ℕ) (k i : ℕ) → i ≤ length l → drop i l ≡ behind k l → i ≡ fieldFrom l k
+unfolding fieldFrom
+field-from l k i h e = omega (arith, length-drop i l, ap length e)
 
 -- a field, by the places of its start and its end
 pub field-is : (l : List ℕ) (k i t : ℕ) → drop i l ≡ behind k l → t ≡ i + length (until (drop i l))

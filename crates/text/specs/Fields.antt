@@ -1,8 +1,9 @@
 -- The bench language: "A line is fields parted by one tab and ended by one line feed".
 -- A tab is the octet 9; the line feed is gone when a line comes here. Assumes nothing.
 use mathlib.Core.List.{List, [], _∷_}
-use Prim.Native.Nat.{ℕ, zero, suc, _+_}
+use Prim.Native.Nat.{ℕ, zero, suc, _+_, _-_}
 use lib.Dec.{eqb}
+use lib.ListN.{length}
 use Rattle.octets.specs.Choice.{if_then_else_}
 use Rattle.octets.specs.Lists.{eqList}
 
@@ -24,6 +25,10 @@ behind (suc k) l = behind k (after l)
 -- field k, counted from 0; a field that the line does not have is empty
 unfoldable pub fieldAt : List ℕ → ℕ → List ℕ
 fieldAt l k = until (behind k l)
+
+-- where it starts
+unfoldable pub fieldFrom : List ℕ → ℕ → ℕ
+fieldFrom l k = length l - length (behind k l)
 
 -- how many tabs there are
 unfoldable pub tabs : List ℕ → ℕ

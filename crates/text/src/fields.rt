@@ -2,7 +2,8 @@
 ghost use mathlib.Core.Path.{_≡_};
 ghost use Prim.Native.Nat.{_+_, _≤_};
 ghost use lib.ListN.{length, drop};
-ghost use Rattle.text.specs.Fields.{until, after, behind as Fields·behind, fieldAt, fields, which as Fields·which};
+ghost use Rattle.octets.specs.Parts.{seen, partAt};
+ghost use Rattle.text.specs.Fields.{until, after, behind as Fields·behind, fieldAt, fieldFrom, fields, which as Fields·which};
 
 // How many fields the line has.
 pub fn count(line: &[u8]) -> usize
@@ -17,10 +18,10 @@ pub fn count(line: &[u8]) -> usize
     n
 }
 
-// Field k of the line, counted from 0. It is empty where the line has no such field: a request
+// Field k of the line, counted from 0, as that part of it. It is empty where the line has no such field: a request
 // counts its fields before it reads them.
 pub fn field(line: &[u8], k: usize) -> &[u8]
-    ensures { λ r. ⌜ now r ≡ fieldAt (now (line .entry)) k ⌝ }
+    ensures { λ r. ⌜ seen r ≡ partAt (line .entry) (fieldFrom (now (line .entry)) k) (fieldAt (now (line .entry)) k) ⌝ }
 {
     let from = behind(line, k);
     let end = tab_from(line, from);

@@ -17,7 +17,8 @@ use Rattle.tlvs.specs.declared.Wanted.{Wanted}
 use Rattle.tlvs.specs.declared.Walked.{Walked}
 use Rattle.tlvs.specs.declared.Walked.the-variants.{Ill, Absent, At}
 use Rattle.tlvs.specs.Filling.{valueSize, Tlv, Tlvs, ill, filling, led, tlvsFrom}
-use Rattle.tlvs.specs.Looking.{wants, firstOf, lookedIn, walked, filled, fills, noted}
+use Rattle.tlvs.specs.Looking.{wants, firstOf, lookedIn, walked, filled, fills}
+use Rattle.tlvs.specs.Code.{earlier, noted}
 
 -- ---- octets passed
 
@@ -75,15 +76,17 @@ first-sound w (t ∷ ts) e = go (wants w (t .tag) (t .size)) (first-sound w ts) 
 -- what is found from a TLV on, by whether that one is wanted
 led-next : (w : Wanted) (t : Tlv) (ts : Tlvs) (x : Walked)
     → after x (lookedIn w (led t ts)) ≡ after (noted x (wants w (t .tag) (t .size)) (t .start) (t .size)) (lookedIn w ts)
-unfolding noted
+unfolding earlier noted
 led-next w t ill x = after-ill x ∙ sym (after-ill (noted x (wants w (t .tag) (t .size)) (t .start) (t .size)))
 led-next w t (filling ts) x = go x (wants w (t .tag) (t .size)) (firstOf w ts) (first-sound w ts)
   where
     go : (x : Walked) (b : Bool) (y : Walked) → (y ≡ Ill → ⊥)
         → after x (if b then At (t .start) (t .size) else y) ≡ after (noted x b (t .start) (t .size)) y
     go x b Ill h = absurd (h refl)
-    go Ill b Absent h = refl
-    go Ill b (At j m) h = refl
+    go Ill true Absent h = refl
+    go Ill true (At j m) h = refl
+    go Ill false Absent h = refl
+    go Ill false (At j m) h = refl
     go Absent true Absent h = refl
     go Absent true (At j m) h = refl
     go Absent false Absent h = refl

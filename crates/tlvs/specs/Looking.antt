@@ -50,11 +50,3 @@ found (walks.At i n) = true
 
 unfoldable pub relays : List ℕ → Bool
 relays s = found (walked wanted.Relay s)
-
--- ---- of the code
-
--- what was seen so far, when a TLV with its value at i passes
-unfoldable pub noted : Walked → Bool → ℕ → ℕ → Walked
-noted walks.Ill t i n = walks.Ill
-noted walks.Absent t i n = if t then walks.At i n else walks.Absent
-noted (walks.At j m) t i n = walks.At j m

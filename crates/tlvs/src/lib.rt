@@ -3,7 +3,8 @@ ghost use mathlib.Core.Path.{_≡_};
 ghost use Prim.Native.Nat.{_≤_};
 ghost use Rattle.tlvs.specs.Filling.{valueSize};
 ghost use Rattle.tlvs.specs.Looking.{wants, walked};
-ghost use Rattle.tlvs.specs.Looking.{noted as Looking·noted};
+ghost use Rattle.tlvs.specs.Code.{earlier as Code·earlier};
+ghost use Rattle.tlvs.specs.Code.{noted as Code·noted};
 ghost use Rattle.tlvs.specs.Looking.{fills as Looking·fills};
 ghost use Rattle.tlvs.specs.Looking.{relays as Looking·relays};
 ghost use Rattle.tlvs.specs.declared.Wanted.{Wanted};
@@ -41,19 +42,24 @@ fn is_wanted(w: Wanted, tag: u8, size: usize) -> bool
     }
 }
 
-fn noted(seen: Walked, hit: bool, value: usize, size: usize) -> Walked
-    ensures { λ r. ⌜ r ≡ Looking·noted seen hit value size ⌝ }
+// Of two things that were seen one after another, the one that counts.
+fn earlier(first: Walked, then: Walked) -> Walked
+    ensures { λ r. ⌜ r ≡ Code·earlier first then ⌝ }
 {
-    match seen {
+    match first {
         Walked::Ill => Walked::Ill,
-        Walked::Absent => {
-            if hit {
-                return Walked::At(value, size);
-            }
-            Walked::Absent
-        }
+        Walked::Absent => then,
         Walked::At(i, n) => Walked::At(i, n),
     }
+}
+
+fn noted(seen: Walked, hit: bool, value: usize, size: usize) -> Walked
+    ensures { λ r. ⌜ r ≡ Code·noted seen hit value size ⌝ }
+{
+    if hit {
+        return earlier(seen, Walked::At(value, size));
+    }
+    seen
 }
 
 // Walks over all of s, whatever it finds on the way: a wanted TLV counts only where the last octet

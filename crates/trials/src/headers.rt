@@ -94,8 +94,10 @@ pub(crate) fn aux(line: &[u8]) -> Answer {
     if !good {
         return bad();
     }
-    let a = frames::auxiliary_header(identifier.x, counter.n, sender.a, number.x);
-    hex(done(), &a)
+    let mut out = [0xeeu8; 14];
+    frames::lay_auxiliary(&mut out, 0, identifier.x, counter.n, sender.a, number.x);
+    let n = if identifier.x % 4 == 1 { 14 } else { 13 };
+    hex(done(), text::front(&out, n))
 }
 
 pub(crate) fn auth(line: &[u8]) -> Answer {

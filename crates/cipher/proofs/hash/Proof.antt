@@ -2,7 +2,8 @@ use borrow.Author.Needs.{needs}
 use borrow.Author.Tests.{le-leb}
 use Rattle.octets.proofs.Choices.{tests}
 use Rattle.cipher.specs.Answers.{hashing}
-use Rattle.cipher.specs.Hash.{hashOf, padded}
+use Rattle.cipher.specs.Hash.{hashOf}
+use Rattle.cipher.proofs.Pads.{pad-none}
 use Rattle.cipher.proofs.hash.Statement.{statement}
 use Rattle.cipher.proofs.hash.Tie as tie
 
@@ -17,8 +18,10 @@ hash-from-requires : tie.Need-hash-from-requires
 hash-from-requires c κs = search needs
 
 returns-2 : tie.Need-returns-2
-unfolding hashing hashOf padded
-returns-2 c = simp (le-leb _ _ (c .before .before .before .if1 .left), c .hash-from .ensures)
+unfolding hashing hashOf
+returns-2 c =
+    let start : tie.Start = search in
+    simp (le-leb _ _ (c .before .before .before .if1 .left), c .hash-from .ensures, pad-none (start .args .d .now))
 
 pub hash-spec : {M : Type 1} → statement M
 hash-spec = tie.close (tie.spec returns table-requires hash-from-requires returns-2)

@@ -30,7 +30,9 @@ add-result : tie.Need-add-result
 add-result c = search needs
 
 returns-2 : tie.Need-returns-2
-returns-2 c = omega (arith, number-two (c .before .before .before .before .args .s .now) (c .before .before .before .before .args .i), c .before .octet .ensures, c .octet2 .ensures)
+returns-2 c =
+    let start : tie.Start = search in
+    omega (arith, number-two (start .args .s .now) (start .args .i), c .before .octet .ensures, c .octet2 .ensures)
 
 pub number2-spec : {M : Type 1} → statement M
 number2-spec =

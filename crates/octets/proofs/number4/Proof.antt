@@ -30,7 +30,9 @@ add-result : tie.Need-add-result
 add-result c = search needs
 
 returns-2 : tie.Need-returns-2
-returns-2 c = omega (arith, number-add 2 2 (c .before .before .before .before .args .s .now) (c .before .before .before .before .args .i), c .before .number2 .ensures, c .number22 .ensures)
+returns-2 c =
+    let start : tie.Start = search in
+    omega (arith, number-add 2 2 (start .args .s .now) (start .args .i), c .before .number2 .ensures, c .number22 .ensures)
 
 pub number4-spec : {M : Type 1} → statement M
 number4-spec =

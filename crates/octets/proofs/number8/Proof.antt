@@ -30,7 +30,9 @@ add-result : tie.Need-add-result
 add-result c = search needs
 
 returns-2 : tie.Need-returns-2
-returns-2 c = omega (arith, number-add 4 4 (c .before .before .before .before .args .s .now) (c .before .before .before .before .args .i), c .before .number4 .ensures, c .number42 .ensures)
+returns-2 c =
+    let start : tie.Start = search in
+    omega (arith, number-add 4 4 (start .args .s .now) (start .args .i), c .before .number4 .ensures, c .number42 .ensures)
 
 pub number8-spec : {M : Type 1} → statement M
 number8-spec =

@@ -9,7 +9,8 @@ use Rattle.octets.proofs.paste_at.Statement.{statement}
 use Rattle.octets.proofs.paste_at.Tie as tie
 
 abbrev Inv-loop : tie.InvT-loop
-Inv-loop out₀ i src j₀ j-end out j = (j ≤ length src) × (j-end ≡ length src) × (i + length src ≤ length out₀) × (length out ≡ length out₀) × (out ≡ paste out₀ i src j)
+Inv-loop out₀ i src j₀ j-end out j =
+    (j ≤ length src) × (j-end ≡ length src) × (i + length src ≤ length out₀) × (length out ≡ length out₀) × (out ≡ paste out₀ i src j)
 
 abbrev μ-loop : tie.MeasureT-loop
 μ-loop out₀ i src j₀ j-end out j = length src - j
@@ -21,7 +22,8 @@ sub-if2 : tie.Need-sub-if2 Inv-loop μ-loop
 sub-if2 c = search needs
 
 returns-2 : tie.Need-returns-2 Inv-loop μ-loop
-returns-2 c = sym (pasted-not (c .before .before .args .out .now) (c .before .before .args .i) (c .before .before .args .src .now) (omega arith))
+returns-2 c =
+    sym (pasted-not (c .before .before .args .out .now) (c .before .before .args .i) (c .before .before .args .src .now) (omega arith))
 
 loop-holds : tie.Need-loop-holds Inv-loop μ-loop
 loop-holds c = let x = c .before .before .args in
@@ -43,21 +45,27 @@ loop-less : tie.Need-loop-less Inv-loop μ-loop
 loop-less c = search needs
 
 loop-again : tie.Need-loop-again Inv-loop μ-loop
-loop-again c = let x = c .before .before .before .before .before .args in
-    let l = c .before .before .loop in
+loop-again c =
+    let start : tie.Start Inv-loop μ-loop = search in
+    let x = start .args in
+    let at-loop : tie.At-loop Inv-loop μ-loop = search in
+    let l = at-loop .loop in
     let h = c .before .loop-test .taken in (
       search needs,
       search needs,
       search needs,
       simp length-set (l .inv .3),
-      ap (λ o. lib.ListN.set o (x .i + l .j) (lib.ListN.getD (x .src .now) (l .j) 0)) (l .inv .4) ∙ paste-more (x .out .now) (x .i) (x .src .now) (l .j) (omega arith) (omega arith),
+      ap (λ o. lib.ListN.set o (x .i + l .j) (lib.ListN.getD (x .src .now) (l .j) 0)) (l .inv .4) ∙ paste-more (x .out .now) (x .i)
+          (x .src .now) (l .j) (omega arith) (omega arith),
     )
 
 same-length : tie.Need-same-length Inv-loop μ-loop
 same-length c = c .before .loop .inv .3
 
 returns-3 : tie.Need-returns-3 Inv-loop μ-loop
-returns-3 c = let x = c .before .before .before .before .args in
+returns-3 c =
+    let start : tie.Start Inv-loop μ-loop = search in
+    let x = start .args in
     let l = c .before .loop in
     let e : l .j ≡ length (x .src .now) = omega arith in
     l .inv .4 ∙ ap (paste (x .out .now) (x .i) (x .src .now)) e ∙ sym (pasted-fits (x .out .now) (x .i) (x .src .now) (omega arith))

@@ -17,8 +17,15 @@ returns-2 c = simp (le-leb _ _ (c .before .if1 .left), lt-leb _ _ (c .if2 .taken
 
 returns-3 : tie.Need-returns-3
 unfolding sealable
-returns-3 c = let e = c .if3 .taken in
-    simp (le-leb _ _ (c .before .before .if1 .left), le-leb _ _ (c .before .if2 .left), lt-leb (length (c .before .before .before .before .args .f .now) + sentOctets (c .before .before .before .before .args .identifier) + 4) 116 (omega arith))
+returns-3 c =
+    let e = c .if3 .taken in
+    let else1 : tie.Else1 = search in
+    let start : tie.Start = search in
+    simp (
+      le-leb _ _ (else1 .if1 .left),
+      le-leb _ _ (c .before .if2 .left),
+      lt-leb (length (start .args .f .now) + sentOctets (start .args .identifier) + 4) 116 (omega arith),
+    )
 
 sent-octets-requires : tie.Need-sent-octets-requires
 sent-octets-requires c κs = search needs
@@ -31,7 +38,8 @@ add-result-2 c = search needs
 
 returns-4 : tie.Need-returns-4
 unfolding sealable
-returns-4 c = simp (le-leb _ _ (c .before .before .before .if1 .left), le-leb _ _ (c .before .before .if2 .left), c .sent-octets .ensures .0)
+returns-4 c =
+    simp (le-leb _ _ (c .before .before .before .if1 .left), le-leb _ _ (c .before .before .if2 .left), c .sent-octets .ensures .0)
 
 pub is-sealable-spec : {M : Type 1} → statement M
 is-sealable-spec =

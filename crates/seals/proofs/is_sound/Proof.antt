@@ -14,7 +14,11 @@ returns c = simp (lt-leb _ _ (c .if1 .taken))
 returns-2 : tie.Need-returns-2
 unfolding sound
 returns-2 c = let e = c .if2 .taken in
-    simp (le-leb _ _ (c .before .if1 .left), lt-leb (c .before .before .args .s .header + c .before .before .args .s .aux + 4) (length (c .before .before .args .f .now)) (omega arith))
+    simp (
+      le-leb _ _ (c .before .if1 .left),
+      lt-leb (c .before .before .args .s .header + c .before .before .args .s .aux + 4) (length (c .before .before .args .f .now))
+          (omega arith),
+    )
 
 sub-if3 : tie.Need-sub-if3
 sub-if3 c = search needs
@@ -22,7 +26,11 @@ sub-if3 c = search needs
 returns-3 : tie.Need-returns-3
 unfolding sound
 returns-3 c = let e = c .if3 .taken in
-    simp (le-leb _ _ (c .before .before .if1 .left), lt-leb (c .before .before .before .args .s .header + c .before .before .before .args .s .aux + 4) (length (c .before .before .before .args .f .now)) (omega arith))
+    simp (
+      le-leb _ _ (c .before .before .if1 .left),
+      lt-leb (c .before .before .before .args .s .header + c .before .before .before .args .s .aux + 4)
+          (length (c .before .before .before .args .f .now)) (omega arith),
+    )
 
 add-if4 : tie.Need-add-if4
 add-if4 c = search needs

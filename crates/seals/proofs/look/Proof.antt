@@ -21,10 +21,18 @@ enum-told-2 : tie.Need-enum-told-2
 enum-told-2 c = search needs
 
 returns : tie.Need-returns
-returns c = ap (λ r. isMade (toldUnsealed r)) (sym (c .enum-told .given .1)) ∙ looked (c .before .before .before .before .before .before .args .key) Aps (c .before .before .before .before .before .before .args .f .now) (c .before .before .before .before .before .before .args .s) (replicate 116 0) (omega arith) (c .before .before .before .unseal .result) _ (c .before .before .before .unseal .ensures)
+returns c =
+    let after-unseal : tie.After-unseal = search in
+    let start : tie.Start = search in
+    ap (λ r. isMade (toldUnsealed r)) (sym (c .enum-told .given .1)) ∙ looked (start .args .key) Aps (start .args .f .now) (start .args .s)
+    (replicate 116 0) (omega arith) (after-unseal .unseal .result) _ (after-unseal .unseal .ensures)
 
 returns-2 : tie.Need-returns-2
-returns-2 c = ap (λ r. isMade (toldUnsealed r)) (sym (c .enum-told2 .given .1)) ∙ looked (c .before .before .before .before .before .before .args .key) Aps (c .before .before .before .before .before .before .args .f .now) (c .before .before .before .before .before .before .args .s) (replicate 116 0) (omega arith) (c .before .before .before .unseal .result) _ (c .before .before .before .unseal .ensures)
+returns-2 c =
+    let after-unseal : tie.After-unseal = search in
+    let start : tie.Start = search in
+    ap (λ r. isMade (toldUnsealed r)) (sym (c .enum-told2 .given .1)) ∙ looked (start .args .key) Aps (start .args .f .now) (start .args .s)
+    (replicate 116 0) (omega arith) (after-unseal .unseal .result) _ (after-unseal .unseal .ensures)
 
 pub look-spec : {M : Type 1} → statement M
 look-spec =

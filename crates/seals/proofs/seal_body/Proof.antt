@@ -30,10 +30,12 @@ same-length : tie.Need-same-length
 same-length c = search needs
 
 returns : tie.Need-returns
-returns c = let x = c .before .before .before .before .before .before .before .before in
+returns c =
+    let x : tie.Start = search in
     let y = x .args in
-    let o = c .before .before .seal .last in (
-      ap (gave (told (c .before .before .seal .result))) (back-tail (y .out .now) _ (y .n) (x .pre .1)) ∙ c .before .before .seal .ensures
+    let after-seal : tie.After-seal = search in
+    let o = after-seal .seal .last in (
+      ap (gave (told (after-seal .seal .result))) (back-tail (y .out .now) _ (y .n) (x .pre .1)) ∙ after-seal .seal .ensures
           ∙ ap₂ (sealing 4 (y .key) (y .nonce) (y .a .now)) (tail-part (y .f .now) (y .h)) (tail-part (y .out .now) (y .n)),
       back-front (y .out .now) (o .1 .1 .1 .1 .1 .0) (y .n) (x .pre .1),
     )

@@ -17,7 +17,8 @@ unfolding unsealing
 returns-2 c = simp (sym (c .before .before .is-sound .ensures) ∙ not-false _ (c .before .if1 .left), lt-leb _ _ (c .if2 .taken))
 
 unseal-sound-requires : tie.Need-unseal-sound-requires
-unseal-sound-requires c κs = (sym (c .before .before .before .is-sound .ensures) ∙ not-false _ (c .before .before .if1 .left), c .before .if2 .left)
+unseal-sound-requires c κs =
+    (sym (c .before .before .before .is-sound .ensures) ∙ not-false _ (c .before .before .if1 .left), c .before .if2 .left)
 
 same-length : tie.Need-same-length
 same-length c = search needs

@@ -30,10 +30,12 @@ same-length : tie.Need-same-length
 same-length c = search needs
 
 returns : tie.Need-returns
-returns c = let x = c .before .before .before .before .before .before .before .before in
+returns c =
+    let x : tie.Start = search in
     let y = x .args in
-    let o = c .before .before .unseal .last in (
-      ap (gave (told (c .before .before .unseal .result))) (back-tail (y .out .now) _ (y .h) (x .pre .1)) ∙ c .before .before .unseal .ensures
+    let after-unseal : tie.After-unseal = search in
+    let o = after-unseal .unseal .last in (
+      ap (gave (told (after-unseal .unseal .result))) (back-tail (y .out .now) _ (y .h) (x .pre .1)) ∙ after-unseal .unseal .ensures
           ∙ ap₂ (opening 4 (y .key) (y .nonce) (y .a .now)) (tail-part (y .f .now) (y .n)) (tail-part (y .out .now) (y .h)),
       back-front (y .out .now) (o .1 .1 .1 .1 .1 .0) (y .h) (x .pre .1),
     )

@@ -1,13 +1,17 @@
-use mathlib.Core.Path.{refl}
+use mathlib.Core.Path.{refl, _∙_}
 use native.Mathlib.Omega.{arith}
 use lib.ListN.{length-take, replicate}
 use borrow.Author.Needs.{needs}
-use Rattle.seals.proofs.Opened.{after-made, after-length, after-not, sound-tells, asked}
+use Rattle.seals.proofs.Opened.{Sound, sound-tells, asked, Unseals, after-length, after-made, after-not}
 use Rattle.seals.proofs.unseal_sound.Statement.{statement}
 use Rattle.seals.proofs.unseal_sound.Tie as tie
 
+-- what may be opened
+fits : (x : tie.Start) → Sound (x .args .f .now) (x .args .s)
+fits x = sound-tells _ _ (x .pre .0)
+
 add-n : tie.Need-add-n
-add-n c = let t = sound-tells _ _ (c .before .before .before .pre .0) in omega arith
+add-n c = let t = fits (search) in omega arith
 
 slice-aggregate-lay-authenticated : tie.Need-slice-aggregate-lay-authenticated
 slice-aggregate-lay-authenticated c = search needs
@@ -19,13 +23,19 @@ nonce-requires : tie.Need-nonce-requires
 nonce-requires c κs = search needs
 
 array-share-prefix-a : tie.Need-array-share-prefix-a
-array-share-prefix-a c = let t = sound-tells _ _ (c .before .before .before .before .before .before .before .pre .0) in omega arith
+array-share-prefix-a c =
+    let t = fits (search) in
+    omega arith
 
 slice-aggregate-unseal-body : tie.Need-slice-aggregate-unseal-body
-slice-aggregate-unseal-body c = let t = sound-tells _ _ (c .before .before .before .before .before .before .before .before .pre .0) in simp length-take (omega arith)
+slice-aggregate-unseal-body c =
+    let t = fits (search) in
+    simp length-take (omega arith)
 
 unseal-body-requires : tie.Need-unseal-body-requires
-unseal-body-requires c κs = let t = sound-tells _ _ (c .before .before .before .before .before .before .before .before .before .pre .0) in (omega arith, omega arith)
+unseal-body-requires c κs =
+    let t = fits (search) in
+    (omega arith, omega arith)
 
 enum-known-m : tie.Need-enum-known-m
 enum-known-m c = search needs
@@ -33,12 +43,32 @@ enum-known-m c = search needs
 lay-plain-header-requires : tie.Need-lay-plain-header-requires
 lay-plain-header-requires c κs = search needs
 
-add-t23 : tie.Need-add-t23
-add-t23 c = let x = c .before .before .before .before .before .before .before .before .before .before .before .before .before .before .before .before .before .before .before in
+-- what is known once the cipher has answered
+unseals-there : (c : tie.After-unseal-body)
+    →
+    let start : tie.Start = search in
+    let y = start .args in
+    Unseals (y .key) (y .f .now) (y .s) (y .out .now) (c .unseal-body .result) (c .unseal-body .last .1 .1 .1 .1 .1 .1 .0)
+unseals-there c =
+    let x : tie.Start = search in
     let y = x .args in
-    let t = sound-tells _ _ (x .pre .0) in
-    let w = asked (y .key) (y .l) (y .f .now) (y .s) (y .out .now) t (x .pre .1) (replicate 116 0) _ _ refl (c .before .before .before .before .before .before .before .before .before .before .before .before .before .before .lay-authenticated .ensures) (c .before .before .before .before .before .before .before .before .before .before .before .before .nonce .ensures) in
-    omega (arith, after-length (y .key) (y .l) (y .f .now) (y .s) (y .out .now) t (x .pre .1) _ (c .before .before .before .before .before .m .given .0 .0) _ _ (c .before .before .before .before .before .m .given .1) (c .before .before .before .before .before .before .before .before .before .unseal-body .ensures .0) w)
+    let after-nonce : tie.After-nonce = search in
+    let after-lay-authenticated : tie.After-lay-authenticated = search in
+    record {
+      fits = fits x;
+      room = x .pre .1;
+      outcome =
+          c .unseal-body .ensures .0
+          ∙ asked (y .key) (y .l) (y .f .now) (y .s) (y .out .now) (fits x) (x .pre .1) (replicate 116 0) _ _ refl
+          (after-lay-authenticated .lay-authenticated .ensures) (after-nonce .nonce .ensures);
+    }
+
+add-t23 : tie.Need-add-t23
+add-t23 c =
+    let t = fits (search) in
+    let start : tie.Start = search in
+    let after-m : tie.After-m = search in
+    omega (arith, after-length (unseals-there (search)) (start .args .l) (after-m .m .given .0 .0) (after-m .m .given .1))
 
 enum-told : tie.Need-enum-told
 enum-told c = search needs
@@ -47,21 +77,22 @@ same-length : tie.Need-same-length
 same-length c = search needs
 
 returns : tie.Need-returns
-returns c = let x = c .before .before .before .before .before .before .before .before .before .before .before .before .before .before .before .before .before .before .before in
-    let y = x .args in
-    let t = sound-tells _ _ (x .pre .0) in
-    let w = asked (y .key) (y .l) (y .f .now) (y .s) (y .out .now) t (x .pre .1) (replicate 116 0) _ _ refl (c .before .before .before .before .before .before .before .before .before .before .before .before .before .before .lay-authenticated .ensures) (c .before .before .before .before .before .before .before .before .before .before .before .before .nonce .ensures) in
-    after-made (y .key) (y .l) (y .f .now) (y .s) (y .out .now) t (x .pre .1) _ (c .before .before .before .before .before .m .given .0 .0) _ _ _ (c .before .before .before .before .before .m .given .1) (c .before .before .before .before .before .before .before .before .before .unseal-body .ensures .0) w (c .before .before .before .before .before .before .before .before .before .unseal-body .kept .1 .1 .1 .1 .1 .1 .0) (c .before .before .lay-plain-header .ensures)
+returns c =
+    let start : tie.Start = search in
+    let after-lay-plain-header : tie.After-lay-plain-header = search in
+    let after-m : tie.After-m = search in
+    let after-unseal-body : tie.After-unseal-body = search in
+    after-made (unseals-there (search)) (start .args .l) (after-m .m .given .0 .0) _ (after-m .m .given .1)
+    (after-unseal-body .unseal-body .kept .1 .1 .1 .1 .1 .1 .0) (after-lay-plain-header .lay-plain-header .ensures)
 
 same-length-2 : tie.Need-same-length-2
 same-length-2 c = search needs
 
 returns-2 : tie.Need-returns-2
-returns-2 c = let x = c .before .before .before .before .before .before .before .before .before .before .before .before .before .before in
-    let y = x .args in
-    let t = sound-tells _ _ (x .pre .0) in
-    let w = asked (y .key) (y .l) (y .f .now) (y .s) (y .out .now) t (x .pre .1) (replicate 116 0) _ _ refl (c .before .before .before .before .before .before .before .before .before .lay-authenticated .ensures) (c .before .before .before .before .before .before .before .nonce .ensures) in
-    after-not (y .key) (y .l) (y .f .now) (y .s) (y .out .now) t (x .pre .1) _ _ _ _ (c .enum-told .given .1) (c .before .before .before .before .unseal-body .ensures .0) w (c .before .before .before .before .unseal-body .ensures .1)
+returns-2 c =
+    let start : tie.Start = search in
+    let after-unseal-body : tie.After-unseal-body = search in
+    after-not (unseals-there (search)) (start .args .l) _ (c .enum-told .given .1) (after-unseal-body .unseal-body .ensures .1)
 
 pub unseal-sound-spec : {M : Type 1} → statement M
 unseal-sound-spec =

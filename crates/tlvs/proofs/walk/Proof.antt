@@ -46,7 +46,8 @@ sub-if2-2 c = search needs
 
 returns-2 : tie.Need-returns-2 Inv-loop μ-loop
 returns-2 c =
-    let l = c .before .before .before .before .before .before .loop in
+    let at-loop : tie.At-loop Inv-loop μ-loop = search in
+    let l = at-loop .loop in
     walk-cut _ _ (l .seen) (l .i) _ (l .inv .1) (omega arith) (c .before .value-size .ensures .0) (c .if2 .taken)
 
 is-wanted-requires : tie.Need-is-wanted-requires Inv-loop μ-loop
@@ -66,10 +67,13 @@ loop-less c = search needs
 
 loop-again : tie.Need-loop-again Inv-loop μ-loop
 loop-again c =
-    let l = c .before .before .before .before .before .before .before .before .loop in
-    let v = c .before .before .before .value-size .ensures in (
+    let else2 : tie.Else2 Inv-loop μ-loop = search in
+    let at-loop : tie.At-loop Inv-loop μ-loop = search in
+    let l = at-loop .loop in
+    let v = else2 .before .value-size .ensures in (
       search needs,
-      simp (c .noted .ensures, c .before .is-wanted .ensures) (walk-next _ _ (l .seen) (l .i) _ (l .inv .1) (omega arith) (v .0) (c .before .before .if2 .left)),
+      simp (c .noted .ensures, c .before .is-wanted .ensures)
+          (walk-next _ _ (l .seen) (l .i) _ (l .inv .1) (omega arith) (v .0) (else2 .if2 .left)),
     )
 
 returns-3 : tie.Need-returns-3 Inv-loop μ-loop

@@ -14,7 +14,10 @@ keyed-hash-requires : tie.Need-keyed-hash-requires
 keyed-hash-requires c κs = search needs
 
 returns : tie.Need-returns
-returns c = ap (λ (x : Outcome). x .octets) (c .before .keyed-hash .ensures ∙ keyed-made (c .before .before .before .args .key) (c .before .before .before .args .x ∷ []) (omega arith))
+returns c =
+    ap (λ (x : Outcome). x .octets)
+    (c .before .keyed-hash .ensures ∙ keyed-made (c .before .before .before .args .key) (c .before .before .before .args .x ∷ [])
+    (omega arith))
 
 pub hashed-spec : {M : Type 1} → statement M
 hashed-spec = tie.close (tie.spec slice-aggregate-keyed-hash keyed-hash-requires returns)

@@ -33,17 +33,34 @@ same-length : tie.Need-same-length
 same-length c = search needs
 
 returns : tie.Need-returns
-returns c = let x = c .before .before .before .before .before .before .before .before .before .before .before .before in
+returns c =
+    let x : tie.Start = search in
     let y = x .args in
-    ((λ b. admit-plain _ (y .f .now) (y .s) (y .out .now) (y .i) (x .pre .0) (x .pre .1 .0) _ (c .before .before .before .n .given .0 .0) _ _ (c .before .before .before .n .given .1) (c .before .before .before .before .before .before .before .unseal .ensures) (c .before .identifier .ensures) b ∙ ap (λ (k : List ℕ). admitted b (y .f .now) (y .s) (y .out .now) (y .i) (messageOf k (y .f .now) (y .s))) (c .before .before .before .before .before .before .before .before .before .key-named .ensures)), moves-this (x .pre .1 .1 .1))
+    let after-n : tie.After-n = search in
+    let after-unseal : tie.After-unseal = search in
+    let after-key-named : tie.After-key-named = search in (
+      (λ b. admit-plain _ (y .f .now) (y .s) (y .out .now) (y .i) (x .pre .0) (x .pre .1 .0) _ (after-n .n .given .0 .0) _ _
+          (after-n .n .given .1) (after-unseal .unseal .ensures) (c .before .identifier .ensures) b ∙ ap
+          (λ (k : List ℕ). admitted b (y .f .now) (y .s) (y .out .now) (y .i) (messageOf k (y .f .now) (y .s)))
+          (after-key-named .key-named .ensures)),
+      moves-this (x .pre .1 .1 .1),
+    )
 
 same-length-2 : tie.Need-same-length-2
 same-length-2 c = search needs
 
 returns-2 : tie.Need-returns-2
-returns-2 c = let x = c .before .before .before .before .before .before .before .before .before .before in
+returns-2 c =
+    let x : tie.Start = search in
     let y = x .args in
-    ((λ b. admit-forged _ (y .f .now) (y .s) (y .out .now) (y .i) (x .pre .0) (x .pre .1 .0) _ _ _ _ _ (c .before .enum-told .given .1) (c .before .before .before .before .before .unseal .ensures) (c .down .ensures .0) (c .down .ensures .1) b ∙ ap (λ (k : List ℕ). admitted b (y .f .now) (y .s) (y .out .now) (y .i) (messageOf k (y .f .now) (y .s))) (c .before .before .before .before .before .before .before .key-named .ensures)), moves-none (c .down .ensures .1))
+    let after-unseal : tie.After-unseal = search in
+    let after-key-named : tie.After-key-named = search in (
+      (λ b. admit-forged _ (y .f .now) (y .s) (y .out .now) (y .i) (x .pre .0) (x .pre .1 .0) _ _ _ _ _ (c .before .enum-told .given .1)
+          (after-unseal .unseal .ensures) (c .down .ensures .0) (c .down .ensures .1) b ∙ ap
+          (λ (k : List ℕ). admitted b (y .f .now) (y .s) (y .out .now) (y .i) (messageOf k (y .f .now) (y .s)))
+          (after-key-named .key-named .ensures)),
+      moves-none (c .down .ensures .1),
+    )
 
 pub admit-spec : {M : Type 1} → statement M
 admit-spec =

@@ -24,7 +24,11 @@ array-copy-out-l : tie.Need-array-copy-out-l
 array-copy-out-l c = link-place _ _ _ (sym (c .before .before .before .link-of .ensures) ∙ c .before .i .given .1)
 
 open-under-requires : tie.Need-open-under-requires
-open-under-requires c κs = (c .before .before .before .before .before .before .before .before .pre .0, (c .before .before .before .before .before .before .before .before .pre .1, link-place _ _ _ (sym (c .before .before .before .before .before .link-of .ensures) ∙ c .before .before .before .i .given .1)))
+open-under-requires c κs =
+    let after-i : tie.After-i = search in
+    let after-link-of : tie.After-link-of = search in
+    let start : tie.Start = search in
+    (start .pre .0, (start .pre .1, link-place _ _ _ (sym (after-link-of .link-of .ensures) ∙ after-i .i .given .1)))
 
 enum-told : tie.Need-enum-told
 enum-told c = search needs
@@ -37,13 +41,28 @@ same-length c = search needs
 
 returns : tie.Need-returns
 unfolding openedKeyed
-returns c = let y = c .before .before .before .before .before .before .before .before .before .before .before .args in
-    ((λ b el. simp (ap (λ (x : List Link). linkOf x (y .s .sender)) el ∙ sym (c .before .before .before .before .before .before .before .before .link-of .ensures) ∙ c .before .before .before .before .before .before .i .given .1) (c .before .before .open-under .ensures .0 b (ap (λ (x : List Link). linkAt x (c .before .before .before .before .before .before .i .given .0 .0)) el))), c .before .before .open-under .ensures .1)
+returns c =
+    let start : tie.Start = search in
+    let y = start .args in
+    let after-open-under : tie.After-open-under = search in
+    let after-i : tie.After-i = search in
+    let after-link-of : tie.After-link-of = search in (
+      (λ b el. simp (ap (λ (x : List Link). linkOf x (y .s .sender)) el ∙ sym (after-link-of .link-of .ensures) ∙ after-i .i .given .1)
+          (after-open-under .open-under .ensures .0 b (ap (λ (x : List Link). linkAt x (after-i .i .given .0 .0)) el))),
+      after-open-under .open-under .ensures .1,
+    )
 
 returns-2 : tie.Need-returns-2
 unfolding openedKeyed
-returns-2 c = let y = c .before .before .before .before .before .before .args in
-    ((λ b el. simp (ap (λ (x : List Link). linkOf x (y .s .sender)) el ∙ sym (c .before .before .before .link-of .ensures) ∙ c .before .enum-told .given .1) (refuses 6 _ _ (c .down .ensures .0) (c .down .ensures .1) b)), moves-none (c .down .ensures .1))
+returns-2 c =
+    let start : tie.Start = search in
+    let y = start .args in
+    let after-link-of : tie.After-link-of = search in (
+      (λ b el. simp
+          (ap (λ (x : List Link). linkOf x (y .s .sender)) el ∙ sym (after-link-of .link-of .ensures) ∙ c .before .enum-told .given .1)
+          (refuses 6 _ _ (c .down .ensures .0) (c .down .ensures .1) b)),
+      moves-none (c .down .ensures .1),
+    )
 
 pub open-keyed-spec : {M : Type 1} → statement M
 open-keyed-spec =

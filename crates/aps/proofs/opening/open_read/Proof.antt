@@ -4,7 +4,7 @@ use lib.ListN.{length}
 use borrow.Author.Tests.{lt-ltb, le-ltb}
 use Rattle.octets.proofs.Pasted.{pasted-onto}
 use Rattle.aps.specs.Opening.{openAps, openedRead, gave}
-use Rattle.answers.specs.declared.Guard.the-variants.{Clear}
+use Rattle.answers.specs.Numbers.{clear}
 use Rattle.answers.specs.Numbers.{opened}
 use Rattle.frames.specs.Reading.{toldRead}
 use Rattle.aps.proofs.Admission.{refuses, moves-none, read-sound}
@@ -17,14 +17,21 @@ down-requires c κs = search needs
 
 returns : tie.Need-returns
 unfolding openAps
-returns c = ((λ b el. simp (lt-ltb _ _ (c .before .if1 .taken)) (refuses 1 _ _ (c .down .ensures .0) (c .down .ensures .1) b)), moves-none (c .down .ensures .1))
+returns c = (
+  (λ b el. simp (lt-ltb _ _ (c .before .if1 .taken)) (refuses 1 _ _ (c .down .ensures .0) (c .down .ensures .1) b)),
+  moves-none (c .down .ensures .1),
+)
 
 down-requires-2 : tie.Need-down-requires-2
 down-requires-2 c κs = search needs
 
 returns-2 : tie.Need-returns-2
 unfolding openAps
-returns-2 c = ((λ b el. simp (le-ltb _ _ (c .before .before .if1 .left), lt-ltb _ _ (c .before .if2 .taken)) (refuses 2 _ _ (c .down2 .ensures .0) (c .down2 .ensures .1) b)), moves-none (c .down2 .ensures .1))
+returns-2 c = (
+  (λ b el. simp (le-ltb _ _ (c .before .before .if1 .left), lt-ltb _ _ (c .before .if2 .taken))
+      (refuses 2 _ _ (c .down2 .ensures .0) (c .down2 .ensures .1) b)),
+  moves-none (c .down2 .ensures .1),
+)
 
 read-aps-requires : tie.Need-read-aps-requires
 read-aps-requires c κs = search needs
@@ -45,29 +52,75 @@ enum-known-s : tie.Need-enum-known-s
 enum-known-s c = search needs
 
 open-keyed-requires : tie.Need-open-keyed-requires
-open-keyed-requires c κs = (read-sound (c .before .before .before .before .before .before .before .before .before .args .f .now) (c .before .before .before .before .before .before .before .before .before .args .given) _ (sym (c .before .before .before .before .read-aps .ensures) ∙ ap toldRead (c .before .before .s .given .1)) (c .before .before .before .before .before .if2 .left), c .before .before .before .before .before .before .if1 .left)
+open-keyed-requires c κs =
+    let after-s : tie.After-s = search in
+    let after-read-aps : tie.After-read-aps = search in
+    let else2 : tie.Else2 = search in
+    let else1 : tie.Else1 = search in
+    let start : tie.Start = search in (
+      read-sound (start .args .f .now) (start .args .given) _
+          (sym (after-read-aps .read-aps .ensures) ∙ ap toldRead (after-s .s .given .1)) (else2 .if2 .left),
+      else1 .if1 .left,
+    )
 
 returns-3 : tie.Need-returns-3
 unfolding openAps openedRead
-returns-3 c = ((λ b el. simp (le-ltb _ _ (c .before .before .before .before .before .before .if1 .left), le-ltb _ _ (c .before .before .before .before .before .if2 .left), sym (c .before .before .before .before .read-aps .ensures) ∙ ap toldRead (c .before .before .r .given .1)) (refuses _ _ _ (c .down3 .ensures .0) (c .down3 .ensures .1) b)), moves-none (c .down3 .ensures .1))
+returns-3 c =
+    let after-r : tie.After-r = search in
+    let after-read-aps : tie.After-read-aps = search in
+    let else2 : tie.Else2 = search in
+    let else1 : tie.Else1 = search in (
+      (λ b el. simp (
+        le-ltb _ _ (else1 .if1 .left),
+        le-ltb _ _ (else2 .if2 .left),
+        sym (after-read-aps .read-aps .ensures) ∙ ap toldRead (after-r .r .given .1),
+      )
+          (refuses _ _ _ (c .down3 .ensures .0) (c .down3 .ensures .1) b)),
+      moves-none (c .down3 .ensures .1),
+    )
 
 same-length : tie.Need-same-length
 same-length c = search needs
 
 returns-4 : tie.Need-returns-4
 unfolding openAps openedRead
-returns-4 c = let y = c .before .before .before .before .before .before .before .before .before .before .before .args in (
-  (λ b el. simp (le-ltb _ _ (c .before .before .before .before .before .before .before .before .if1 .left), le-ltb _ _ (c .before .before .before .before .before .before .before .if2 .left), sym (c .before .before .before .before .before .before .read-aps .ensures) ∙ ap toldRead (c .before .before .before .before .enum-told .given .1))
-      (ap (gave (opened (length (y .f .now)) 0 Clear) b) (pasted-onto _ (y .out .now) (y .f .now) (c .before .before .paste-at .ensures) (omega (arith, c .before .before .before .before .before .before .before .before .if1 .left, c .before .before .before .before .before .before .before .if2 .left))))),
-  moves-none refl,
-)
+returns-4 c =
+    let start : tie.Start = search in
+    let y = start .args in
+    let after-paste-at : tie.After-paste-at = search in
+    let after-enum-told : tie.After-enum-told = search in
+    let after-read-aps : tie.After-read-aps = search in
+    let else2 : tie.Else2 = search in
+    let else1 : tie.Else1 = search in (
+      (λ b el. simp (
+        le-ltb _ _ (else1 .if1 .left),
+        le-ltb _ _ (else2 .if2 .left),
+        sym (after-read-aps .read-aps .ensures) ∙ ap toldRead (after-enum-told .enum-told .given .1),
+      )
+          (ap (gave (opened (length (y .f .now)) 0 clear) b) (pasted-onto _ (y .out .now) (y .f .now) (after-paste-at .paste-at .ensures)
+          (omega (arith, else1 .if1 .left, else2 .if2 .left))))),
+      moves-none refl,
+    )
 
 same-length-2 : tie.Need-same-length-2
 same-length-2 c = search needs
 
 returns-5 : tie.Need-returns-5
 unfolding openAps openedRead
-returns-5 c = ((λ b el. simp (le-ltb _ _ (c .before .before .before .before .before .before .before .before .before .if1 .left), le-ltb _ _ (c .before .before .before .before .before .before .before .before .if2 .left), sym (c .before .before .before .before .before .before .before .read-aps .ensures) ∙ ap toldRead (c .before .before .before .before .before .s .given .1)) (c .before .before .open-keyed .ensures .0 b el)), c .before .before .open-keyed .ensures .1)
+returns-5 c =
+    let after-open-keyed : tie.After-open-keyed = search in
+    let after-s : tie.After-s = search in
+    let after-read-aps : tie.After-read-aps = search in
+    let else2 : tie.Else2 = search in
+    let else1 : tie.Else1 = search in (
+      (λ b el. simp (
+        le-ltb _ _ (else1 .if1 .left),
+        le-ltb _ _ (else2 .if2 .left),
+        sym (after-read-aps .read-aps .ensures) ∙ ap toldRead (after-s .s .given .1),
+      )
+          (after-open-keyed .open-keyed .ensures .0 b el)),
+      after-open-keyed .open-keyed .ensures .1,
+    )
 
 pub open-read-spec : {M : Type 1} → statement M
 open-read-spec =

@@ -13,14 +13,22 @@ down-requires c κs = search needs
 
 returns : tie.Need-returns
 unfolding openedUnder
-returns c = ((λ b el. simp (eq-eqb _ _ (c .before .if1 .taken)) (refuses 7 _ _ (c .down .ensures .0) (c .down .ensures .1) b)), moves-none (c .down .ensures .1))
+returns c = (
+  (λ b el. simp (eq-eqb _ _ (c .before .if1 .taken)) (refuses 7 _ _ (c .down .ensures .0) (c .down .ensures .1) b)),
+  moves-none (c .down .ensures .1),
+)
 
 down-requires-2 : tie.Need-down-requires-2
 down-requires-2 c κs = search needs
 
 returns-2 : tie.Need-returns-2
 unfolding openedUnder
-returns-2 c = ((λ b el. simp (ne-eqb _ _ (c .before .before .before .before .if1 .left), ap (λ (l : Link). l .floor) el, lt-ltb _ _ (c .before .if2 .taken)) (refuses 8 _ _ (c .down2 .ensures .0) (c .down2 .ensures .1) b)), moves-none (c .down2 .ensures .1))
+returns-2 c =
+    let else1 : tie.Else1 = search in (
+      (λ b el. simp (ne-eqb _ _ (else1 .if1 .left), ap (λ (l : Link). l .floor) el, lt-ltb _ _ (c .before .if2 .taken))
+          (refuses 8 _ _ (c .down2 .ensures .0) (c .down2 .ensures .1) b)),
+      moves-none (c .down2 .ensures .1),
+    )
 
 admit-requires : tie.Need-admit-requires
 admit-requires c κs = search needs
@@ -30,11 +38,17 @@ same-length c = search needs
 
 returns-3 : tie.Need-returns-3
 unfolding openedUnder
-returns-3 c = let y = c .before .before .before .before .before .before .before .before .before .before .before .args in (
-  (λ b el. simp (ne-eqb _ _ (c .before .before .before .before .before .before .before .if1 .left), ap (λ (l : Link). l .floor) el, le-ltb _ _ (c .before .before .before .before .if2 .left))
-      (c .before .before .admit .ensures .0 b ∙ ap (λ (l : Link). admitted b (y .f .now) (y .s) (y .out .now) (y .i) (messageOf (keyNamed l (y .s)) (y .f .now) (y .s))) (sym el))),
-  c .before .before .admit .ensures .1,
-)
+returns-3 c =
+    let start : tie.Start = search in
+    let y = start .args in
+    let after-admit : tie.After-admit = search in
+    let else2 : tie.Else2 = search in
+    let else1 : tie.Else1 = search in (
+      (λ b el. simp (ne-eqb _ _ (else1 .if1 .left), ap (λ (l : Link). l .floor) el, le-ltb _ _ (else2 .if2 .left))
+          (after-admit .admit .ensures .0 b ∙ ap
+          (λ (l : Link). admitted b (y .f .now) (y .s) (y .out .now) (y .i) (messageOf (keyNamed l (y .s)) (y .f .now) (y .s))) (sym el))),
+      after-admit .admit .ensures .1,
+    )
 
 pub open-under-spec : {M : Type 1} → statement M
 open-under-spec =

@@ -33,13 +33,23 @@ same-length c = search needs
 
 returns : tie.Need-returns
 unfolding sealedFor
-returns c = λ b el en eo. let y = c .before .before .before .before .before .before .before .before .before .before .before .before .args in
-    simp (ap (λ (x : List Link). linkOf x (y .a)) el ∙ sym (c .before .before .before .before .before .before .before .before .before .link-of .ensures) ∙ c .before .before .before .before .before .before .before .i .given .1)
-    (c .before .before .seal-under .ensures b en eo ∙ ap (λ (x : List Link). sealedUnder b (y .f .now) (y .out .now) (y .h) (y .k) (linkAt x (c .before .before .before .before .before .before .before .i .given .0 .0) .key)) (sym el))
+returns c =
+    let after-seal-under : tie.After-seal-under = search in
+    let after-i : tie.After-i = search in
+    let after-link-of : tie.After-link-of = search in
+    let start : tie.Start = search in
+    λ b el en eo. let y = start .args in
+    simp (ap (λ (x : List Link). linkOf x (y .a)) el ∙ sym (after-link-of .link-of .ensures) ∙ after-i .i .given .1)
+    (after-seal-under .seal-under .ensures b en eo ∙ ap
+    (λ (x : List Link). sealedUnder b (y .f .now) (y .out .now) (y .h) (y .k) (linkAt x (after-i .i .given .0 .0) .key)) (sym el))
 
 returns-2 : tie.Need-returns-2
 unfolding sealedFor
-returns-2 c = λ b el en eo. simp (ap (λ (x : List Link). linkOf x (c .before .before .before .before .before .args .a)) el ∙ sym (c .before .before .link-of .ensures) ∙ c .enum-told .given .1)
+returns-2 c =
+    let after-link-of : tie.After-link-of = search in
+    let start : tie.Start = search in
+    λ b el en eo. simp
+    (ap (λ (x : List Link). linkOf x (start .args .a)) el ∙ sym (after-link-of .link-of .ensures) ∙ c .enum-told .given .1)
 
 pub seal-for-spec : {M : Type 1} → statement M
 seal-for-spec =

@@ -14,7 +14,10 @@ same-length : tie.Need-same-length
 same-length c = search needs
 
 returns : tie.Need-returns
-returns c = counted _ (c .before .before .before .before .before .before .before .before .args .b) (c .counter-after .ensures) (c .before .before .before .seal-read .ensures (c .before .before .before .before .before .before .before .before .args .b) refl refl refl)
+returns c =
+    let after-seal-read : tie.After-seal-read = search in
+    let start : tie.Start = search in
+    counted _ (start .args .b) (c .counter-after .ensures) (after-seal-read .seal-read .ensures (start .args .b) refl refl refl)
 
 pub seal-frame-spec : {M : Type 1} → statement M
 seal-frame-spec =

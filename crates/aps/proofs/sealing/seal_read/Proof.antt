@@ -32,25 +32,73 @@ is-named-requires c κs = search needs
 
 returns-3 : tie.Need-returns-3
 unfolding sealAps sealedRead
-returns-3 c = λ b el en eo. simp (le-ltb _ _ (c .before .before .before .before .before .before .before .if1 .left), le-ltb _ _ (c .before .before .before .before .before .before .if2 .left), sym (c .before .before .before .before .before .read-aps-plain .ensures) ∙ ap toldRead (c .before .before .before .h .given .1), sym (c .before .is-named .ensures) ∙ not-true _ (c .if3 .taken))
+returns-3 c =
+    let after-h : tie.After-h = search in
+    let after-read-aps-plain : tie.After-read-aps-plain = search in
+    let else2 : tie.Else2 = search in
+    let else1 : tie.Else1 = search in
+    λ b el en eo. simp (
+      le-ltb _ _ (else1 .if1 .left),
+      le-ltb _ _ (else2 .if2 .left),
+      sym (after-read-aps-plain .read-aps-plain .ensures) ∙ ap toldRead (after-h .h .given .1),
+      sym (c .before .is-named .ensures) ∙ not-true _ (c .if3 .taken),
+    )
 
 seal-for-requires : tie.Need-seal-for-requires
-seal-for-requires c κs = (plain-bounds (c .before .before .before .before .before .before .before .before .before .before .before .args .f .now) _ (sym (c .before .before .before .before .before .before .read-aps-plain .ensures) ∙ ap toldRead (c .before .before .before .before .h .given .1)), (c .before .before .before .before .before .before .before .if2 .left, (c .before .before .before .before .before .before .before .before .if1 .left, sym (c .before .before .is-named .ensures) ∙ not-false _ (c .before .if3 .left))))
+seal-for-requires c κs =
+    let else3 : tie.Else3 = search in
+    let after-h : tie.After-h = search in
+    let after-read-aps-plain : tie.After-read-aps-plain = search in
+    let else2 : tie.Else2 = search in
+    let else1 : tie.Else1 = search in
+    let start : tie.Start = search in (
+      plain-bounds (start .args .f .now) _ (sym (after-read-aps-plain .read-aps-plain .ensures) ∙ ap toldRead (after-h .h .given .1)),
+      (else2 .if2 .left, (else1 .if1 .left, sym (else3 .before .is-named .ensures) ∙ not-false _ (else3 .if3 .left))),
+    )
 
 returns-4 : tie.Need-returns-4
 unfolding sealAps sealedRead
-returns-4 c = λ b el en eo. simp (le-ltb _ _ (c .before .before .before .before .before .if1 .left), le-ltb _ _ (c .before .before .before .before .if2 .left), sym (c .before .before .before .read-aps-plain .ensures) ∙ ap toldRead (c .before .r .given .1))
+returns-4 c =
+    let after-read-aps-plain : tie.After-read-aps-plain = search in
+    let else2 : tie.Else2 = search in
+    let else1 : tie.Else1 = search in
+    λ b el en eo. simp (
+      le-ltb _ _ (else1 .if1 .left),
+      le-ltb _ _ (else2 .if2 .left),
+      sym (after-read-aps-plain .read-aps-plain .ensures) ∙ ap toldRead (c .before .r .given .1),
+    )
 
 returns-5 : tie.Need-returns-5
 unfolding sealAps sealedRead
-returns-5 c = λ b el en eo. simp (le-ltb _ _ (c .before .before .before .before .if1 .left), le-ltb _ _ (c .before .before .before .if2 .left), sym (c .before .before .read-aps-plain .ensures) ∙ ap toldRead (c .enum-told .given .1))
+returns-5 c =
+    let after-read-aps-plain : tie.After-read-aps-plain = search in
+    let else2 : tie.Else2 = search in
+    let else1 : tie.Else1 = search in
+    λ b el en eo. simp (
+      le-ltb _ _ (else1 .if1 .left),
+      le-ltb _ _ (else2 .if2 .left),
+      sym (after-read-aps-plain .read-aps-plain .ensures) ∙ ap toldRead (c .enum-told .given .1),
+    )
 
 same-length : tie.Need-same-length
 same-length c = search needs
 
 returns-6 : tie.Need-returns-6
 unfolding sealAps sealedRead
-returns-6 c = λ b el en eo. simp (le-ltb _ _ (c .before .before .before .before .before .before .before .before .before .before .before .if1 .left), le-ltb _ _ (c .before .before .before .before .before .before .before .before .before .before .if2 .left), sym (c .before .before .before .before .before .before .before .before .before .read-aps-plain .ensures) ∙ ap toldRead (c .before .before .before .before .before .before .before .h .given .1), sym (c .before .before .before .before .before .is-named .ensures) ∙ not-false _ (c .before .before .before .before .if3 .left)) (c .before .before .seal-for .ensures b el en eo)
+returns-6 c =
+    let after-seal-for : tie.After-seal-for = search in
+    let else3 : tie.Else3 = search in
+    let after-h : tie.After-h = search in
+    let after-read-aps-plain : tie.After-read-aps-plain = search in
+    let else2 : tie.Else2 = search in
+    let else1 : tie.Else1 = search in
+    λ b el en eo. simp (
+      le-ltb _ _ (else1 .if1 .left),
+      le-ltb _ _ (else2 .if2 .left),
+      sym (after-read-aps-plain .read-aps-plain .ensures) ∙ ap toldRead (after-h .h .given .1),
+      sym (else3 .before .is-named .ensures) ∙ not-false _ (else3 .if3 .left),
+    )
+    (after-seal-for .seal-for .ensures b el en eo)
 
 pub seal-read-spec : {M : Type 1} → statement M
 seal-read-spec =

@@ -23,7 +23,9 @@ same-requires c κs = search needs
 
 returns-2 : tie.Need-returns-2
 unfolding holds
-returns-2 c = simp (sym (c .before .before .before .before .before .carries-number .ensures) ∙ not-false _ (c .before .before .before .before .if1 .left)) (c .same .ensures)
+returns-2 c =
+    let else1 : tie.Else1 = search in
+    simp (sym (else1 .before .carries-number .ensures) ∙ not-false _ (else1 .if1 .left)) (c .same .ensures)
 
 pub holds-key-spec : {M : Type 1} → statement M
 holds-key-spec =

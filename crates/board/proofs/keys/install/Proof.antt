@@ -23,7 +23,8 @@ same-length-2 c = search needs
 
 returns : tie.Need-returns
 unfolding install
-returns c = simp (sym (c .before .before .lists-fit .ensures) ∙ not-true _ (c .before .if1 .taken)) (left-all (c .refuse .ensures) refl refl)
+returns c =
+    simp (sym (c .before .before .lists-fit .ensures) ∙ not-true _ (c .before .if1 .taken)) (left-all (c .refuse .ensures) refl refl)
 
 refuse-requires-2 : tie.Need-refuse-requires-2
 refuse-requires-2 c κs = search needs
@@ -36,7 +37,12 @@ same-length-4 c = search needs
 
 returns-2 : tie.Need-returns-2
 unfolding install
-returns-2 c = simp (sym (c .before .before .before .lists-fit .ensures) ∙ not-false _ (c .before .before .if1 .left), lt-ltb _ _ (c .before .if2 .taken)) (left-all (c .refuse2 .ensures) refl refl)
+returns-2 c =
+    simp (
+      sym (c .before .before .before .lists-fit .ensures) ∙ not-false _ (c .before .before .if1 .left),
+      lt-ltb _ _ (c .before .if2 .taken),
+    )
+    (left-all (c .refuse2 .ensures) refl refl)
 
 mul-other : tie.Need-mul-other
 mul-other c = search needs
@@ -58,7 +64,16 @@ same-length-6 c = search needs
 
 returns-3 : tie.Need-returns-3
 unfolding install
-returns-3 c = simp (sym (c .before .before .before .before .before .before .lists-fit .ensures) ∙ not-false _ (c .before .before .before .before .before .if1 .left), le-ltb _ _ (c .before .before .before .before .if2 .left), sym (c .before .before .carries-number .ensures) ∙ c .before .if3 .taken) (left-all (c .refuse3 .ensures) refl refl)
+returns-3 c =
+    let then3 : tie.Then3 = search in
+    let else2 : tie.Else2 = search in
+    let else1 : tie.Else1 = search in
+    simp (
+      sym (else1 .before .lists-fit .ensures) ∙ not-false _ (else1 .if1 .left),
+      le-ltb _ _ (else2 .if2 .left),
+      sym (then3 .before .carries-number .ensures) ∙ then3 .if3 .taken,
+    )
+    (left-all (c .refuse3 .ensures) refl refl)
 
 mul-now : tie.Need-mul-now
 mul-now c = search needs
@@ -80,13 +95,30 @@ same-length-8 c = search needs
 
 returns-4 : tie.Need-returns-4
 unfolding install
-returns-4 c = simp (sym (c .before .before .before .before .before .before .before .before .before .lists-fit .ensures) ∙ not-false _ (c .before .before .before .before .before .before .before .before .if1 .left), le-ltb _ _ (c .before .before .before .before .before .before .before .if2 .left), sym (c .before .before .before .before .before .carries-number .ensures) ∙ c .before .before .before .before .if3 .left, sym (c .before .before .holds-key .ensures) ∙ c .before .if4 .taken) (left-all (c .did .ensures) refl refl)
+returns-4 c =
+    let then4 : tie.Then4 = search in
+    let else3 : tie.Else3 = search in
+    let else2 : tie.Else2 = search in
+    let else1 : tie.Else1 = search in
+    simp (
+      sym (else1 .before .lists-fit .ensures) ∙ not-false _ (else1 .if1 .left),
+      le-ltb _ _ (else2 .if2 .left),
+      sym (else3 .before .carries-number .ensures) ∙ else3 .if3 .left,
+      sym (then4 .before .holds-key .ensures) ∙ then4 .if4 .taken,
+    )
+    (left-all (c .did .ensures) refl refl)
 
 mul-free-rows : tie.Need-mul-free-rows
 mul-free-rows c = search needs
 
 free-rows-requires : tie.Need-free-rows-requires
-free-rows-requires c κs = let h = lists-long 32 (c .before .before .before .before .before .before .before .before .before .before .before .before .before .before .before .args .addrs .now) (c .before .before .before .before .before .before .before .before .before .before .before .before .before .before .before .args .floors .now) (sym (c .before .before .before .before .before .before .before .before .before .before .lists-fit .ensures) ∙ not-false _ (c .before .before .before .before .before .before .before .before .before .if1 .left)) in omega (arith, h .0, h .1, c .before .before .before .before .before .before .before .before .if2 .left)
+free-rows-requires c κs =
+    let else1 : tie.Else1 = search in
+    let start : tie.Start = search in
+    let h = lists-long 32 (start .args .addrs .now) (start .args .floors .now)
+    (sym (else1 .before .lists-fit .ensures) ∙ not-false _ (else1 .if1 .left)) in
+    let else2 : tie.Else2 = search in
+    omega (arith, h .0, h .1, else2 .if2 .left)
 
 with-slot-requires : tie.Need-with-slot-requires
 with-slot-requires c κs = search needs
@@ -102,7 +134,20 @@ same-length-10 c = search needs
 
 returns-5 : tie.Need-returns-5
 unfolding install
-returns-5 c = simp (sym (c .before .before .before .before .before .before .before .before .before .before .before .before .before .before .before .before .before .lists-fit .ensures) ∙ not-false _ (c .before .before .before .before .before .before .before .before .before .before .before .before .before .before .before .before .if1 .left), le-ltb _ _ (c .before .before .before .before .before .before .before .before .before .before .before .before .before .before .before .if2 .left), sym (c .before .before .before .before .before .before .before .before .before .before .before .before .before .carries-number .ensures) ∙ c .before .before .before .before .before .before .before .before .before .before .before .before .if3 .left, sym (c .before .before .before .before .before .before .before .before .before .before .holds-key .ensures) ∙ c .before .before .before .before .before .before .before .before .before .if4 .left) (left-all (c .did2 .ensures ∙ ap (changed done) (c .before .with-slot .ensures)) (c .before .before .before .before .before .before .free-rows .ensures .0) (c .before .before .before .before .before .before .free-rows .ensures .1))
+returns-5 c =
+    let after-free-rows : tie.After-free-rows = search in
+    let else4 : tie.Else4 = search in
+    let else3 : tie.Else3 = search in
+    let else2 : tie.Else2 = search in
+    let else1 : tie.Else1 = search in
+    simp (
+      sym (else1 .before .lists-fit .ensures) ∙ not-false _ (else1 .if1 .left),
+      le-ltb _ _ (else2 .if2 .left),
+      sym (else3 .before .carries-number .ensures) ∙ else3 .if3 .left,
+      sym (else4 .before .holds-key .ensures) ∙ else4 .if4 .left,
+    )
+    (left-all (c .did2 .ensures ∙ ap (changed done) (c .before .with-slot .ensures)) (after-free-rows .free-rows .ensures .0)
+    (after-free-rows .free-rows .ensures .1))
 
 pub install-spec : {M : Type 1} → statement M
 install-spec =

@@ -23,11 +23,15 @@ carries-number-requires-2 c κs = search needs
 
 returns-2 : tie.Need-returns-2
 unfolding slotOf firstAt
-returns-2 c = simp (sym (c .before .before .before .before .carries-number .ensures) ∙ c .before .before .before .if1 .left, sym (c .before .carries-number2 .ensures) ∙ c .if2 .taken)
+returns-2 c =
+    let else1 : tie.Else1 = search in
+    simp (sym (else1 .before .carries-number .ensures) ∙ else1 .if1 .left, sym (c .before .carries-number2 .ensures) ∙ c .if2 .taken)
 
 returns-3 : tie.Need-returns-3
 unfolding slotOf firstAt
-returns-3 c = simp (sym (c .before .before .before .before .carries-number .ensures) ∙ c .before .before .before .if1 .left, sym (c .before .carries-number2 .ensures) ∙ c .if2 .left)
+returns-3 c =
+    let else1 : tie.Else1 = search in
+    simp (sym (else1 .before .carries-number .ensures) ∙ else1 .if1 .left, sym (c .before .carries-number2 .ensures) ∙ c .if2 .left)
 
 pub slot-of-spec : {M : Type 1} → statement M
 slot-of-spec =

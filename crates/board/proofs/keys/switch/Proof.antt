@@ -24,7 +24,10 @@ refuse-requires c κs = search needs
 
 returns : tie.Need-returns
 unfolding switch
-returns c = simp (sym (c .before .before .before .before .before .slot-of .ensures) ∙ c .before .before .before .i .given .1, ← c .before .with-active .ensures) (c .did .ensures)
+returns c =
+    let after-i : tie.After-i = search in
+    let after-slot-of : tie.After-slot-of = search in
+    simp (sym (after-slot-of .slot-of .ensures) ∙ after-i .i .given .1, ← c .before .with-active .ensures) (c .did .ensures)
 
 returns-2 : tie.Need-returns-2
 unfolding switch

@@ -32,11 +32,23 @@ add-new-requires c κs = search needs
 
 returns-2 : tie.Need-returns-2
 unfolding addLink
-returns-2 c = simp (sym (c .before .before .before .before .before .before .before .no-address .ensures) ∙ c .before .before .before .before .before .before .if1 .left, sym (c .before .before .before .before .link-of .ensures) ∙ c .before .before .i .given .1) (c .add-again .ensures)
+returns-2 c =
+    let after-i : tie.After-i = search in
+    let after-link-of : tie.After-link-of = search in
+    let else1 : tie.Else1 = search in
+    simp (sym (else1 .before .no-address .ensures) ∙ else1 .if1 .left, sym (after-link-of .link-of .ensures) ∙ after-i .i .given .1)
+    (c .add-again .ensures)
 
 returns-3 : tie.Need-returns-3
 unfolding addLink
-returns-3 c = simp (sym (c .before .before .before .before .before .before .no-address .ensures) ∙ c .before .before .before .before .before .if1 .left, sym (c .before .before .before .link-of .ensures) ∙ c .before .enum-told .given .1) (c .add-new .ensures)
+returns-3 c =
+    let after-link-of : tie.After-link-of = search in
+    let else1 : tie.Else1 = search in
+    simp (
+      sym (else1 .before .no-address .ensures) ∙ else1 .if1 .left,
+      sym (after-link-of .link-of .ensures) ∙ c .before .enum-told .given .1,
+    )
+    (c .add-new .ensures)
 
 pub add-link-spec : {M : Type 1} → statement M
 add-link-spec =

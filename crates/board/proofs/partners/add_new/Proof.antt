@@ -20,7 +20,10 @@ refuse-requires : tie.Need-refuse-requires
 refuse-requires c κs = search needs
 
 returns : tie.Need-returns
-returns c = simp (sym (c .before .before .before .before .free-link .ensures) ∙ c .before .before .i .given .1) (c .put-link .ensures)
+returns c =
+    let after-i : tie.After-i = search in
+    let after-free-link : tie.After-free-link = search in
+    simp (sym (after-free-link .free-link .ensures) ∙ after-i .i .given .1) (c .put-link .ensures)
 
 returns-2 : tie.Need-returns-2
 returns-2 c = simp (sym (c .before .before .before .free-link .ensures) ∙ c .before .enum-told .given .1) (c .refuse .ensures)

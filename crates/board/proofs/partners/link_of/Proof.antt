@@ -28,7 +28,11 @@ pairs-with-requires : tie.Need-pairs-with-requires Inv-loop μ-loop
 pairs-with-requires c κs = search needs
 
 returns : tie.Need-returns Inv-loop μ-loop
-returns c = sym (c .before .before .before .before .loop .inv .1 ∙ first-hit _ (c .before .before .before .before .loop .i) 8 (c .before .before .before .loop-test .taken) (sym (c .before .pairs-with .ensures) ∙ c .if1 .taken))
+returns c =
+    let in-loop : tie.In-loop Inv-loop μ-loop = search in
+    let at-loop : tie.At-loop Inv-loop μ-loop = search in
+    sym (at-loop .loop .inv .1 ∙ first-hit _ (at-loop .loop .i) 8 (in-loop .loop-test .taken)
+    (sym (c .before .pairs-with .ensures) ∙ c .if1 .taken))
 
 add-i : tie.Need-add-i Inv-loop μ-loop
 add-i c = search needs
@@ -37,7 +41,13 @@ loop-less : tie.Need-loop-less Inv-loop μ-loop
 loop-less c = search needs
 
 loop-again : tie.Need-loop-again Inv-loop μ-loop
-loop-again c = (search needs, c .before .before .before .before .loop .inv .1 ∙ first-miss _ (c .before .before .before .before .loop .i) 8 (c .before .before .before .loop-test .taken) (sym (c .before .pairs-with .ensures) ∙ c .if1 .left))
+loop-again c =
+    let in-loop : tie.In-loop Inv-loop μ-loop = search in
+    let at-loop : tie.At-loop Inv-loop μ-loop = search in (
+      search needs,
+      at-loop .loop .inv .1 ∙ first-miss _ (at-loop .loop .i) 8 (in-loop .loop-test .taken)
+          (sym (c .before .pairs-with .ensures) ∙ c .if1 .left),
+    )
 
 returns-2 : tie.Need-returns-2 Inv-loop μ-loop
 returns-2 c = sym (c .before .loop .inv .1 ∙ first-done _ (c .before .loop .i) 8 (c .loop-test .left))

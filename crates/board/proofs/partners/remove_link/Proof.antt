@@ -23,7 +23,10 @@ no-link-requires : tie.Need-no-link-requires
 no-link-requires c κs = search needs
 
 with-link-requires : tie.Need-with-link-requires
-with-link-requires c κs = link-place _ _ _ (sym (c .before .before .before .before .link-of .ensures) ∙ c .before .before .i .given .1)
+with-link-requires c κs =
+    let after-i : tie.After-i = search in
+    let after-link-of : tie.After-link-of = search in
+    link-place _ _ _ (sym (after-link-of .link-of .ensures) ∙ after-i .i .given .1)
 
 did-requires : tie.Need-did-requires
 did-requires c κs = search needs
@@ -36,11 +39,25 @@ refuse-requires-2 c κs = search needs
 
 returns-2 : tie.Need-returns-2
 unfolding removeLink
-returns-2 c = simp (ne-eqb _ _ (c .before .before .before .before .before .before .before .before .if1 .left), sym (c .before .before .before .before .before .before .link-of .ensures) ∙ c .before .before .before .before .i .given .1, ← c .before .with-link .ensures, ← c .before .before .no-link .ensures) (c .did .ensures)
+returns-2 c =
+    let after-no-link : tie.After-no-link = search in
+    let after-i : tie.After-i = search in
+    let after-link-of : tie.After-link-of = search in
+    let else1 : tie.Else1 = search in
+    simp (
+      ne-eqb _ _ (else1 .if1 .left),
+      sym (after-link-of .link-of .ensures) ∙ after-i .i .given .1,
+      ← c .before .with-link .ensures,
+      ← after-no-link .no-link .ensures,
+    )
+    (c .did .ensures)
 
 returns-3 : tie.Need-returns-3
 unfolding removeLink
-returns-3 c = simp (ne-eqb _ _ (c .before .before .before .before .before .if1 .left), sym (c .before .before .before .link-of .ensures) ∙ c .before .enum-told .given .1) (c .refuse2 .ensures)
+returns-3 c =
+    let after-link-of : tie.After-link-of = search in
+    let else1 : tie.Else1 = search in
+    simp (ne-eqb _ _ (else1 .if1 .left), sym (after-link-of .link-of .ensures) ∙ c .before .enum-told .given .1) (c .refuse2 .ensures)
 
 pub remove-link-spec : {M : Type 1} → statement M
 remove-link-spec =

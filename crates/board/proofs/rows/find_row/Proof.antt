@@ -12,15 +12,20 @@ use Rattle.board.proofs.rows.find_row.Statement.{statement}
 use Rattle.board.proofs.rows.find_row.Tie as tie
 
 abbrev Inv-loop : tie.InvT-loop
-Inv-loop addrs from n a end i₀ i = (i ≤ end) × (end ≤ length addrs) × (findRow addrs from n a ≡ firstAt (λ r. eqb (getD addrs r 0) a) i (end - i))
+Inv-loop addrs from n a end i₀ i =
+    (i ≤ end) × (end ≤ length addrs) × (findRow addrs from n a ≡ firstAt (λ r. eqb (getD addrs r 0) a) i (end - i))
 
 abbrev μ-loop : tie.MeasureT-loop
 μ-loop addrs from n a end i₀ i = end - i
 
 returns : tie.Need-returns Inv-loop μ-loop
 unfolding findRow firstAt
-returns c = let e : min (c .before .before .args .n) (length (c .before .before .args .addrs .now) - c .before .before .args .from) ≡ 0 = omega arith in
-    sym (ap (firstAt (λ r. eqb (getD (c .before .before .args .addrs .now) r 0) (c .before .before .args .a)) (c .before .before .args .from)) e)
+returns c =
+    let e : min (c .before .before .args .n) (length (c .before .before .args .addrs .now) - c .before .before .args .from) ≡ 0
+    = omega arith in
+    sym
+    (ap (firstAt (λ r. eqb (getD (c .before .before .args .addrs .now) r 0) (c .before .before .args .a)) (c .before .before .args .from))
+    e)
 
 sub-least : tie.Need-sub-least Inv-loop μ-loop
 sub-least c = search needs
@@ -45,7 +50,9 @@ shared-slice-read-if2 : tie.Need-shared-slice-read-if2 Inv-loop μ-loop
 shared-slice-read-if2 c = search needs
 
 returns-2 : tie.Need-returns-2 Inv-loop μ-loop
-returns-2 c = sym (c .before .before .before .loop .inv .2 ∙ first-hit _ (c .before .before .before .loop .i) _ (c .before .before .loop-test .taken) (eq-eqb _ _ (c .if2 .taken)))
+returns-2 c =
+    sym (c .before .before .before .loop .inv .2 ∙ first-hit _ (c .before .before .before .loop .i) _ (c .before .before .loop-test .taken)
+    (eq-eqb _ _ (c .if2 .taken)))
 
 add-i : tie.Need-add-i Inv-loop μ-loop
 add-i c = search needs
@@ -54,7 +61,12 @@ loop-less : tie.Need-loop-less Inv-loop μ-loop
 loop-less c = search needs
 
 loop-again : tie.Need-loop-again Inv-loop μ-loop
-loop-again c = (search needs, search needs, c .before .before .before .loop .inv .2 ∙ first-miss _ (c .before .before .before .loop .i) _ (c .before .before .loop-test .taken) (ne-eqb _ _ (c .if2 .left)))
+loop-again c = (
+  search needs,
+  search needs,
+  c .before .before .before .loop .inv .2 ∙ first-miss _ (c .before .before .before .loop .i) _ (c .before .before .loop-test .taken)
+      (ne-eqb _ _ (c .if2 .left)),
+)
 
 returns-3 : tie.Need-returns-3 Inv-loop μ-loop
 returns-3 c = sym (c .before .loop .inv .2 ∙ first-done _ (c .before .loop .i) _ (c .loop-test .left))

@@ -36,7 +36,12 @@ same-length-6 c = search needs
 
 returns-3 : tie.Need-returns-3
 unfolding forget
-returns-3 c = simp (sym (c .before .before .before .lists-fit .ensures) ∙ not-false _ (c .before .before .if1 .left), le-ltb _ _ (c .before .if2 .left), eq-eqb _ _ (c .if3 .taken))
+returns-3 c =
+    simp (
+      sym (c .before .before .before .lists-fit .ensures) ∙ not-false _ (c .before .before .if1 .left),
+      le-ltb _ _ (c .before .if2 .left),
+      eq-eqb _ _ (c .if3 .taken),
+    )
 
 mul-find-row : tie.Need-mul-find-row
 mul-find-row c = search needs
@@ -61,7 +66,21 @@ same-length-8 c = search needs
 
 returns-4 : tie.Need-returns-4
 unfolding forget
-returns-4 c = simp (sym (c .before .before .before .before .before .before .before .before .before .before .before .before .before .before .before .lists-fit .ensures) ∙ not-false _ (c .before .before .before .before .before .before .before .before .before .before .before .before .before .before .if1 .left), le-ltb _ _ (c .before .before .before .before .before .before .before .before .before .before .before .before .before .if2 .left), ne-eqb _ _ (c .before .before .before .before .before .before .before .before .before .before .before .before .if3 .left), sym (c .before .before .before .before .before .before .before .before .before .before .find-row .ensures) ∙ c .before .before .before .before .before .before .before .before .r .given .1, c .before .before .before .before .put-row .ensures .0, c .before .before .before .before .put-row .ensures .1)
+returns-4 c =
+    let after-put-row : tie.After-put-row = search in
+    let after-r : tie.After-r = search in
+    let after-find-row : tie.After-find-row = search in
+    let else3 : tie.Else3 = search in
+    let else2 : tie.Else2 = search in
+    let else1 : tie.Else1 = search in
+    simp (
+      sym (else1 .before .lists-fit .ensures) ∙ not-false _ (else1 .if1 .left),
+      le-ltb _ _ (else2 .if2 .left),
+      ne-eqb _ _ (else3 .if3 .left),
+      sym (after-find-row .find-row .ensures) ∙ after-r .r .given .1,
+      after-put-row .put-row .ensures .0,
+      after-put-row .put-row .ensures .1,
+    )
 
 same-length-9 : tie.Need-same-length-9
 same-length-9 c = search needs
@@ -71,7 +90,17 @@ same-length-10 c = search needs
 
 returns-5 : tie.Need-returns-5
 unfolding forget
-returns-5 c = simp (sym (c .before .before .before .before .before .before .before .lists-fit .ensures) ∙ not-false _ (c .before .before .before .before .before .before .if1 .left), le-ltb _ _ (c .before .before .before .before .before .if2 .left), ne-eqb _ _ (c .before .before .before .before .if3 .left), sym (c .before .before .find-row .ensures) ∙ c .enum-told .given .1)
+returns-5 c =
+    let after-find-row : tie.After-find-row = search in
+    let else3 : tie.Else3 = search in
+    let else2 : tie.Else2 = search in
+    let else1 : tie.Else1 = search in
+    simp (
+      sym (else1 .before .lists-fit .ensures) ∙ not-false _ (else1 .if1 .left),
+      le-ltb _ _ (else2 .if2 .left),
+      ne-eqb _ _ (else3 .if3 .left),
+      sym (after-find-row .find-row .ensures) ∙ c .enum-told .given .1,
+    )
 
 pub forget-spec : {M : Type 1} → statement M
 forget-spec =

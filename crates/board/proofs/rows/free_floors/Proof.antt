@@ -33,12 +33,14 @@ loop-less : tie.Need-loop-less Inv-loop μ-loop
 loop-less c = search needs
 
 loop-again : tie.Need-loop-again Inv-loop μ-loop
-loop-again c = let x = c .before .before in (
-  search needs,
-  search needs,
-  simp length-set (c .before .loop .inv .2),
-  ap (λ y. set y (x .args .from + c .before .loop .j) 0) (c .before .loop .inv .3) ∙ zeroed-more (x .args .l .now) (x .args .from) (x .args .n) (x .pre) (c .before .loop .j) (c .loop-test .taken),
-)
+loop-again c =
+    let x = c .before .before in (
+      search needs,
+      search needs,
+      simp length-set (c .before .loop .inv .2),
+      ap (λ y. set y (x .args .from + c .before .loop .j) 0) (c .before .loop .inv .3) ∙ zeroed-more (x .args .l .now) (x .args .from)
+          (x .args .n) (x .pre) (c .before .loop .j) (c .loop-test .taken),
+    )
 
 same-length : tie.Need-same-length Inv-loop μ-loop
 same-length c = c .before .loop .inv .2
@@ -46,7 +48,8 @@ same-length c = c .before .loop .inv .2
 returns : tie.Need-returns Inv-loop μ-loop
 returns c = let x = c .before .before in
     let e : c .before .loop .j ≡ x .args .n = omega arith in
-    c .before .loop .inv .3 ∙ ap (lib.Seq.paste (x .args .l .now) (x .args .from) (replicate (x .args .n) 0)) e ∙ zeroed-all (x .args .l .now) (x .args .from) (x .args .n) (x .pre)
+    c .before .loop .inv .3 ∙ ap (lib.Seq.paste (x .args .l .now) (x .args .from) (replicate (x .args .n) 0)) e ∙ zeroed-all
+    (x .args .l .now) (x .args .from) (x .args .n) (x .pre)
 
 pub free-floors-spec : {M : Type 1} → statement M
 free-floors-spec =

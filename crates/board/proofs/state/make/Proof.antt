@@ -15,7 +15,9 @@ refuse-requires c κs = search needs
 
 returns : tie.Need-returns
 unfolding make
-returns c = simp (sym (c .before .before .before .no-address .ensures) ∙ c .before .before .if1 .taken, ← c .before .fresh-board .ensures) (c .refuse .ensures)
+returns c =
+    simp (sym (c .before .before .before .no-address .ensures) ∙ c .before .before .if1 .taken, ← c .before .fresh-board .ensures)
+    (c .refuse .ensures)
 
 fresh-board-requires-2 : tie.Need-fresh-board-requires-2
 fresh-board-requires-2 c κs = search needs
@@ -25,7 +27,9 @@ did-requires c κs = search needs
 
 returns-2 : tie.Need-returns-2
 unfolding make
-returns-2 c = simp (sym (c .before .before .before .no-address .ensures) ∙ c .before .before .if1 .left, ← c .before .fresh-board2 .ensures) (c .did .ensures)
+returns-2 c =
+    simp (sym (c .before .before .before .no-address .ensures) ∙ c .before .before .if1 .left, ← c .before .fresh-board2 .ensures)
+    (c .did .ensures)
 
 pub make-spec : {M : Type 1} → statement M
 make-spec =

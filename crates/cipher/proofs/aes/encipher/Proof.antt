@@ -42,7 +42,11 @@ loop-less : tie.Need-loop-less Inv-loop μ-loop
 loop-less c = search needs
 
 loop-again : tie.Need-loop-again Inv-loop μ-loop
-loop-again c = (search needs, cc (rounds-more (c .before .before .before .before .before .before .args .w .now) (c .before .before .before .before .add-round-key .result) (c .before .before .before .loop .i)))
+loop-again c =
+    let at-loop : tie.At-loop Inv-loop μ-loop = search in
+    let after-add-round-key : tie.After-add-round-key Inv-loop μ-loop = search in
+    let start : tie.Start Inv-loop μ-loop = search in
+    (search needs, cc (rounds-more (start .args .w .now) (after-add-round-key .add-round-key .result) (at-loop .loop .i)))
 
 element-copy-out-last : tie.Need-element-copy-out-last Inv-loop μ-loop
 element-copy-out-last c = search needs

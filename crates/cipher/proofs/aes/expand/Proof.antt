@@ -40,12 +40,15 @@ loop-less : tie.Need-loop-less Inv-loop μ-loop
 loop-less c = search needs
 
 loop-again : tie.Need-loop-again Inv-loop μ-loop
-loop-again c = let l = c .before .before .before .loop .inv in
-    let a = c .before .before .before .before .args in (
+loop-again c =
+    let at-loop : tie.At-loop Inv-loop μ-loop = search in
+    let l = at-loop .loop .inv in
+    let start : tie.Start Inv-loop μ-loop = search in
+    let a = start .args in (
       search needs,
-      cc (key-more (a .key) (c .before .before .before .loop .i)),
-      cc (rcon-more (c .before .before .before .loop .i)),
-      more _ _ _ _ _ _ (l .3) (search needs) (cc (key-more (a .key) (c .before .before .before .loop .i))),
+      cc (key-more (a .key) (at-loop .loop .i)),
+      cc (rcon-more (at-loop .loop .i)),
+      more _ _ _ _ _ _ (l .3) (search needs) (cc (key-more (a .key) (at-loop .loop .i))),
     )
 
 returns : tie.Need-returns Inv-loop μ-loop

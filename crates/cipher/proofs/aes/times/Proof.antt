@@ -31,11 +31,19 @@ loop-less : tie.Need-loop-less Inv-loop μ-loop
 loop-less c = search needs
 
 loop-again : tie.Need-loop-again Inv-loop μ-loop
-loop-again c = (search needs, c .before .before .before .loop .inv .1 ∙ (product-more (c .before .before .before .loop .sum) (c .before .before .before .loop .x) (c .before .before .before .loop .y) (c .before .before .before .loop .i) (search needs) ∙ (cc)))
+loop-again c = (
+  search needs,
+  c .before .before .before .loop .inv .1
+      ∙ (product-more (c .before .before .before .loop .sum) (c .before .before .before .loop .x) (c .before .before .before .loop .y)
+      (c .before .before .before .loop .i) (search needs) ∙ (cc)),
+)
 
 returns : tie.Need-returns Inv-loop μ-loop
 unfolding mulBits
-returns c = let e : c .before .loop .i ≡ 8 = omega arith in sym (c .before .loop .inv .1 ∙ ap (λ i. bitXor (c .before .loop .sum) (mulBits (8 - i) (c .before .loop .x) (c .before .loop .y))) e ∙ xor-zero-r (c .before .loop .sum))
+returns c =
+    let e : c .before .loop .i ≡ 8 = omega arith in
+    sym (c .before .loop .inv .1 ∙ ap (λ i. bitXor (c .before .loop .sum) (mulBits (8 - i) (c .before .loop .x) (c .before .loop .y))) e
+    ∙ xor-zero-r (c .before .loop .sum))
 
 pub times-spec : {M : Type 1} → statement M
 times-spec =

@@ -30,7 +30,14 @@ sub-byte-requires-4 c κs = search needs
 
 returns : tie.Need-returns
 unfolding turnedWord
-returns c = simp (c .sub-byte4 .ensures, c .before .sub-byte3 .ensures, c .before .before .sub-byte2 .ensures, c .before .before .before .sub-byte .ensures, xor-zero-r)
+returns c =
+    simp (
+      c .sub-byte4 .ensures,
+      c .before .sub-byte3 .ensures,
+      c .before .before .sub-byte2 .ensures,
+      c .before .before .before .sub-byte .ensures,
+      xor-zero-r,
+    )
 
 pub turned-word-spec : {M : Type 1} → statement M
 turned-word-spec =

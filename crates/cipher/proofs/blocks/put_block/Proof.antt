@@ -24,15 +24,21 @@ same-length : tie.Need-same-length
 same-length c = search needs
 
 returns : tie.Need-returns
-returns c = let x = c .before .before .before .before .before .before .before .args in
-    pasted-whole _ (x .out .now) (x .i) (x .t3) (x .n) (c .before .before .paste-at .ensures) (omega arith) (omega arith)
+returns c =
+    let start : tie.Start = search in
+    let x = start .args in
+    let after-paste-at : tie.After-paste-at = search in
+    pasted-whole _ (x .out .now) (x .i) (x .t3) (x .n) (after-paste-at .paste-at .ensures) (omega arith) (omega arith)
 
 same-length-2 : tie.Need-same-length-2
 same-length-2 c = search needs
 
 returns-2 : tie.Need-returns-2
-returns-2 c = let x = c .before .before .before .before .before .before .before .args in
-    pasted-part _ (x .out .now) (x .i) (x .t3) (x .n) (c .before .before .paste-at2 .ensures) (omega arith) (omega arith)
+returns-2 c =
+    let start : tie.Start = search in
+    let x = start .args in
+    let after-paste-at2 : tie.After-paste-at2 = search in
+    pasted-part _ (x .out .now) (x .i) (x .t3) (x .n) (after-paste-at2 .paste-at2 .ensures) (omega arith) (omega arith)
 
 pub put-block-spec : {M : Type 1} → statement M
 put-block-spec =

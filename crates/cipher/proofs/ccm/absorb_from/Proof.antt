@@ -10,7 +10,8 @@ use Rattle.cipher.proofs.ccm.absorb_from.Statement.{statement}
 use Rattle.cipher.proofs.ccm.absorb_from.Tie as tie
 
 abbrev Inv-loop : tie.InvT-loop
-Inv-loop sb w d from y₀ i₀ y i = (i ≤ length d + 16) × (over (absorbed (cipher w)) y₀ (blocks (drop from d)) ≡ over (absorbed (cipher w)) y (blocks (drop i d)))
+Inv-loop sb w d from y₀ i₀ y i =
+    (i ≤ length d + 16) × (over (absorbed (cipher w)) y₀ (blocks (drop from d)) ≡ over (absorbed (cipher w)) y (blocks (drop i d)))
 
 abbrev μ-loop : tie.MeasureT-loop
 μ-loop sb w d from y₀ i₀ y i = length d + 16 - i
@@ -31,11 +32,16 @@ loop-less : tie.Need-loop-less Inv-loop μ-loop
 loop-less c = search needs
 
 loop-again : tie.Need-loop-again Inv-loop μ-loop
-loop-again c = let x = c .before .before .before .before .before .args in
-    let l = c .before .before .before .loop in (
+loop-again c =
+    let start : tie.Start Inv-loop μ-loop = search in
+    let x = start .args in
+    let at-loop : tie.At-loop Inv-loop μ-loop = search in
+    let l = at-loop .loop in
+    let in-loop : tie.In-loop Inv-loop μ-loop = search in (
       search needs,
-      l .inv .1 ∙ over-next (absorbed (cipher (x .w .now))) (l .y) (x .d .now) (l .i) (c .before .before .loop-test .taken)
-          ∙ ap (λ y. over (absorbed (cipher (x .w .now))) y (blocks (drop (l .i + 16) (x .d .now)))) (sym (c .absorb .ensures ∙ ap (absorbed (cipher (x .w .now)) (l .y)) (c .before .block-from .ensures))),
+      l .inv .1 ∙ over-next (absorbed (cipher (x .w .now))) (l .y) (x .d .now) (l .i) (in-loop .loop-test .taken) ∙ ap
+          (λ y. over (absorbed (cipher (x .w .now))) y (blocks (drop (l .i + 16) (x .d .now))))
+          (sym (c .absorb .ensures ∙ ap (absorbed (cipher (x .w .now)) (l .y)) (c .before .block-from .ensures))),
     )
 
 returns : tie.Need-returns Inv-loop μ-loop

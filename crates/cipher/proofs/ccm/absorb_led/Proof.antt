@@ -23,8 +23,13 @@ absorb-from-requires : tie.Need-absorb-from-requires
 absorb-from-requires c κs = search needs
 
 returns-2 : tie.Need-returns-2
-returns-2 c = let x = c .before .before .before .before .before .before .args in
-    led-by (absorbed (cipher (x .w .now))) (x .x) (x .a .now) _ _ _ _ (omega arith) (c .before .before .before .block-from .ensures) (c .before .before .lead-block .ensures) (c .before .absorb .ensures) (c .absorb-from .ensures)
+returns-2 c =
+    let start : tie.Start = search in
+    let x = start .args in
+    let after-lead-block : tie.After-lead-block = search in
+    let after-block-from : tie.After-block-from = search in
+    led-by (absorbed (cipher (x .w .now))) (x .x) (x .a .now) _ _ _ _ (omega arith) (after-block-from .block-from .ensures)
+    (after-lead-block .lead-block .ensures) (c .before .absorb .ensures) (c .absorb-from .ensures)
 
 pub absorb-led-spec : {M : Type 1} → statement M
 absorb-led-spec =

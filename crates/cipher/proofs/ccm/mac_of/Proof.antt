@@ -20,8 +20,14 @@ absorb-from-requires : tie.Need-absorb-from-requires
 absorb-from-requires c κs = search needs
 
 returns : tie.Need-returns
-returns c = let x = c .before .before .before .before .before .before .before .args in
-    mac-of-calls (cipher (x .w .now)) (x .m) (x .n) (x .a .now) (x .p .now) _ _ _ _ _ (c .before .before .before .before .flags-of .ensures) (c .before .before .before .field-of .ensures) (c .before .before .encipher .ensures) (c .before .absorb-led .ensures) (c .absorb-from .ensures)
+returns c =
+    let start : tie.Start = search in
+    let x = start .args in
+    let after-encipher : tie.After-encipher = search in
+    let after-field-of : tie.After-field-of = search in
+    let after-flags-of : tie.After-flags-of = search in
+    mac-of-calls (cipher (x .w .now)) (x .m) (x .n) (x .a .now) (x .p .now) _ _ _ _ _ (after-flags-of .flags-of .ensures)
+    (after-field-of .field-of .ensures) (after-encipher .encipher .ensures) (c .before .absorb-led .ensures) (c .absorb-from .ensures)
 
 pub mac-of-spec : {M : Type 1} → statement M
 mac-of-spec =

@@ -18,7 +18,9 @@ slice-aggregate-stream-into-2 : tie.Need-slice-aggregate-stream-into-2
 slice-aggregate-stream-into-2 c = search needs
 
 stream-into-requires : tie.Need-stream-into-requires
-stream-into-requires c κs = (c .before .before .before .before .before .pre .0, simp length-take (omega arith))
+stream-into-requires c κs =
+    let start : tie.Start = search in
+    (start .pre .0, simp length-take (omega arith))
 
 array-share-prefix-plain : tie.Need-array-share-prefix-plain
 array-share-prefix-plain c = search needs
@@ -60,10 +62,17 @@ same-requires : tie.Need-same-requires
 same-requires c κs = search needs
 
 returns : tie.Need-returns
-returns c = let x = c .before .before .before .before .before .before .before .before .before .before .before .before .before .before .before .before in
+returns c =
+    let x : tie.Start = search in
     let y = x .args in
     let g = x .pre .1 .1 .0 in
-    let f = fits-by (cipher (y .w .now)) (y .m) (y .n) (y .a .now) (y .c .now) (y .out .now) (x .pre .1 .0) g (replicate 128 0) _ _ _ _ _ _ (c .before .before .before .before .before .before .before .before .before .before .stream-into .ensures) (c .before .before .before .before .before .before .before .mac-of .ensures) refl (c .before .before .before .before .before .block-from .ensures) (c .before .before .before .before .mask .ensures) (c .before .same .ensures) in
+    let after-mask : tie.After-mask = search in
+    let after-block-from : tie.After-block-from = search in
+    let after-mac-of : tie.After-mac-of = search in
+    let after-stream-into : tie.After-stream-into = search in
+    let f = fits-by (cipher (y .w .now)) (y .m) (y .n) (y .a .now) (y .c .now) (y .out .now) (x .pre .1 .0) g (replicate 128 0) _ _ _ _ _ _
+    (after-stream-into .stream-into .ensures) (after-mac-of .mac-of .ensures) refl (after-block-from .block-from .ensures)
+    (after-mask .mask .ensures) (c .before .same .ensures) in
     opened-false (cipher (y .w .now)) (y .m) (y .n) (y .a .now) (y .c .now) (y .out .now) (x .pre .1 .0) g (f ∙ not-true _ (c .if1 .taken))
 
 array-share-prefix-plain-2 : tie.Need-array-share-prefix-plain-2
@@ -79,11 +88,21 @@ same-length : tie.Need-same-length
 same-length c = search needs
 
 returns-2 : tie.Need-returns-2
-returns-2 c = let x = c .before .before .before .before .before .before .before .before .before .before .before .before .before .before .before .before .before .before .before .before .before in
+returns-2 c =
+    let x : tie.Start = search in
     let y = x .args in
     let g = x .pre .1 .1 .0 in
-    let f = fits-by (cipher (y .w .now)) (y .m) (y .n) (y .a .now) (y .c .now) (y .out .now) (x .pre .1 .0) g (replicate 128 0) _ _ _ _ _ _ (c .before .before .before .before .before .before .before .before .before .before .before .before .before .before .before .stream-into .ensures) (c .before .before .before .before .before .before .before .before .before .before .before .before .mac-of .ensures) refl (c .before .before .before .before .before .before .before .before .before .before .block-from .ensures) (c .before .before .before .before .before .before .before .before .before .mask .ensures) (c .before .before .before .before .before .before .same .ensures) in
-    opened-true (cipher (y .w .now)) (y .m) (y .n) (y .a .now) (y .c .now) (y .out .now) (x .pre .1 .0) g (replicate 128 0) _ _ (x .pre .1 .1 .1 .1) (f ∙ not-false _ (c .before .before .before .before .before .if1 .left)) (c .before .before .before .before .before .before .before .before .before .before .before .before .before .before .before .stream-into .ensures) (c .before .before .paste-at .ensures)
+    let else1 : tie.Else1 = search in
+    let after-mask : tie.After-mask = search in
+    let after-block-from : tie.After-block-from = search in
+    let after-mac-of : tie.After-mac-of = search in
+    let after-stream-into : tie.After-stream-into = search in
+    let f = fits-by (cipher (y .w .now)) (y .m) (y .n) (y .a .now) (y .c .now) (y .out .now) (x .pre .1 .0) g (replicate 128 0) _ _ _ _ _ _
+    (after-stream-into .stream-into .ensures) (after-mac-of .mac-of .ensures) refl (after-block-from .block-from .ensures)
+    (after-mask .mask .ensures) (else1 .before .same .ensures) in
+    let after-paste-at : tie.After-paste-at = search in
+    opened-true (cipher (y .w .now)) (y .m) (y .n) (y .a .now) (y .c .now) (y .out .now) (x .pre .1 .0) g (replicate 128 0) _ _
+    (x .pre .1 .1 .1 .1) (f ∙ not-false _ (else1 .if1 .left)) (after-stream-into .stream-into .ensures) (after-paste-at .paste-at .ensures)
 
 pub open-with-spec : {M : Type 1} → statement M
 open-with-spec =

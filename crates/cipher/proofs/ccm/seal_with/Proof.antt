@@ -20,8 +20,15 @@ same-length : tie.Need-same-length
 same-length c = search needs
 
 returns : tie.Need-returns
-returns c = let x = c .before .before .before .before .before .before .before .before .before .before .before .before .before in
-    seal-by (cipher (x .args .w .now)) (x .args .m) (x .args .n) (x .args .a .now) (x .args .p .now) (x .args .out .now) _ _ _ _ (x .pre .1 .0) (c .before .before .before .before .before .before .before .before .stream-into .ensures) (c .before .before .before .before .before .mac-of .ensures) (c .before .before .before .before .mask .ensures) (c .before .before .put-block .ensures)
+returns c =
+    let x : tie.Start = search in
+    let after-put-block : tie.After-put-block = search in
+    let after-mask : tie.After-mask = search in
+    let after-mac-of : tie.After-mac-of = search in
+    let after-stream-into : tie.After-stream-into = search in
+    seal-by (cipher (x .args .w .now)) (x .args .m) (x .args .n) (x .args .a .now) (x .args .p .now) (x .args .out .now) _ _ _ _
+    (x .pre .1 .0) (after-stream-into .stream-into .ensures) (after-mac-of .mac-of .ensures) (after-mask .mask .ensures)
+    (after-put-block .put-block .ensures)
 
 pub seal-with-spec : {M : Type 1} → statement M
 seal-with-spec =

@@ -9,7 +9,8 @@ use Rattle.cipher.proofs.ccm.stream_into.Statement.{statement}
 use Rattle.cipher.proofs.ccm.stream_into.Tie as tie
 
 abbrev Inv-loop : tie.InvT-loop
-Inv-loop sb w n d out₀ i₀ out i = (i ≤ length d + 15) × (i % 16 ≡ 0) × (length out ≡ length out₀) × (out ≡ upTo (cipher w) n d out₀ (min i (length d)))
+Inv-loop sb w n d out₀ i₀ out i =
+    (i ≤ length d + 15) × (i % 16 ≡ 0) × (length out ≡ length out₀) × (out ≡ upTo (cipher w) n d out₀ (min i (length d)))
 
 abbrev μ-loop : tie.MeasureT-loop
 μ-loop sb w n d out₀ i₀ out i = length d + 16 - i
@@ -46,22 +47,36 @@ loop-less : tie.Need-loop-less Inv-loop μ-loop
 loop-less c = search needs
 
 loop-again : tie.Need-loop-again Inv-loop μ-loop
-loop-again c = let x = c .before .before .before .before .before .before .before .before .before .before .before .before .args in
-    let l = c .before .before .before .before .before .before .before .before .before .loop in (
+loop-again c =
+    let start : tie.Start Inv-loop μ-loop = search in
+    let x = start .args in
+    let at-loop : tie.At-loop Inv-loop μ-loop = search in
+    let l = at-loop .loop in
+    let after-put-block : tie.After-put-block Inv-loop μ-loop = search in
+    let after-part-of : tie.After-part-of Inv-loop μ-loop = search in
+    let after-add-blocks : tie.After-add-blocks Inv-loop μ-loop = search in
+    let after-block-from : tie.After-block-from Inv-loop μ-loop = search in
+    let after-key-stream : tie.After-key-stream Inv-loop μ-loop = search in
+    let in-loop : tie.In-loop Inv-loop μ-loop = search in (
       omega arith,
       omega arith,
-      c .before .before .put-block .kept .0 ∙ l .inv .2,
-      turn (cipher (x .w .now)) (x .n) (x .d .now) (x .out .now) _ _ _ _ _ (l .i) _ (c .before .before .before .before .before .before .before .before .loop-test .taken) (l .inv .1) (l .inv .3) (c .before .before .before .before .before .before .before .key-stream .ensures) (c .before .before .before .before .before .before .block-from .ensures) (c .before .before .before .before .before .add-blocks .ensures) (c .before .before .before .part-of .ensures) (c .before .before .put-block .ensures),
+      after-put-block .put-block .kept .0 ∙ l .inv .2,
+      turn (cipher (x .w .now)) (x .n) (x .d .now) (x .out .now) _ _ _ _ _ (l .i) _ (in-loop .loop-test .taken) (l .inv .1) (l .inv .3)
+          (after-key-stream .key-stream .ensures) (after-block-from .block-from .ensures) (after-add-blocks .add-blocks .ensures)
+          (after-part-of .part-of .ensures) (after-put-block .put-block .ensures),
     )
 
 same-length : tie.Need-same-length Inv-loop μ-loop
 same-length c = c .before .loop .inv .2
 
 returns : tie.Need-returns Inv-loop μ-loop
-returns c = let x = c .before .before .before .before .args in
+returns c =
+    let start : tie.Start Inv-loop μ-loop = search in
+    let x = start .args in
     let l = c .before .loop in
     let e : min (l .i) (length (x .d .now)) ≡ length (x .d .now) = omega arith in
-    l .inv .3 ∙ ap (upTo (cipher (x .w .now)) (x .n) (x .d .now) (x .out .now)) e ∙ upTo-end (cipher (x .w .now)) (x .n) (x .d .now) (x .out .now)
+    l .inv .3 ∙ ap (upTo (cipher (x .w .now)) (x .n) (x .d .now) (x .out .now)) e ∙ upTo-end (cipher (x .w .now)) (x .n) (x .d .now)
+    (x .out .now)
 
 pub stream-into-spec : {M : Type 1} → statement M
 stream-into-spec =

@@ -13,8 +13,11 @@ hash-from-requires : tie.Need-hash-from-requires
 hash-from-requires c κs = search needs
 
 returns : tie.Need-returns
-returns c = let x = c .before .before .before .before .args in
-    hash-behind (x .k) (x .d .now) _ _ _ (x .x) (c .before .before .plus-each .ensures) (c .before .hash-in .ensures) (c .hash-from .ensures)
+returns c =
+    let start : tie.Start = search in
+    let x = start .args in
+    let after-plus-each : tie.After-plus-each = search in
+    hash-behind (x .k) (x .d .now) _ _ _ (x .x) (after-plus-each .plus-each .ensures) (c .before .hash-in .ensures) (c .hash-from .ensures)
 
 pub hash-behind-spec : {M : Type 1} → statement M
 hash-behind-spec =

@@ -4,14 +4,17 @@ use native.Mathlib.Omega.{arith}
 use lib.ListN.{length, drop}
 use borrow.Author.Needs.{needs}
 use Rattle.cipher.specs.Blocks.{blocks, over}
-use Rattle.cipher.specs.Hash.{paddedAfter, hashedIn}
+use Rattle.cipher.specs.Code.{paddedAfter}
+use Rattle.cipher.specs.Hash.{hashedIn}
 use Rattle.cipher.proofs.Chains.{over-next, over-end}
 use Rattle.cipher.proofs.Pads.{pad-length}
 use Rattle.cipher.proofs.mmo.hash_from.Statement.{statement}
 use Rattle.cipher.proofs.mmo.hash_from.Tie as tie
 
 abbrev Inv-loop : tie.InvT-loop
-Inv-loop sb b d n x₀ i₀ x i = (n ≡ (length d + 18) / 16) × (i ≤ n) × (over hashedIn x₀ (blocks (paddedAfter b d)) ≡ over hashedIn x (blocks (drop (16 * i) (paddedAfter b d))))
+Inv-loop sb b d n x₀ i₀ x i =
+    (n ≡ (length d + 18) / 16) × (i ≤ n)
+    × (over hashedIn x₀ (blocks (paddedAfter b d)) ≡ over hashedIn x (blocks (drop (16 * i) (paddedAfter b d))))
 
 abbrev μ-loop : tie.MeasureT-loop
 μ-loop sb b d n x₀ i₀ x i = n - i
@@ -38,8 +41,11 @@ loop-less : tie.Need-loop-less Inv-loop μ-loop
 loop-less c = search needs
 
 loop-again : tie.Need-loop-again Inv-loop μ-loop
-loop-again c = let x = c .before .before .before .before .before .args in
-    let l = c .before .before .before .loop in
+loop-again c =
+    let start : tie.Start Inv-loop μ-loop = search in
+    let x = start .args in
+    let at-loop : tie.At-loop Inv-loop μ-loop = search in
+    let l = at-loop .loop in
     let p = paddedAfter (x .b) (x .d .now) in
     let e : 16 * l .i + 16 ≡ 16 * (l .i + 1) = omega arith in
     let h = c .hash-in .ensures ∙ ap (hashedIn (l .x)) (c .before .padded-block-from .ensures) in (

@@ -4,7 +4,7 @@ use borrow.Author.Needs.{needs}
 use Rattle.octets.proofs.Filled.{Filled, none, more, all}
 use Rattle.octets.specs.Lists.{at}
 use Rattle.cipher.specs.Blocks.{blockFrom}
-use Rattle.cipher.specs.Hash.{paddedAfter}
+use Rattle.cipher.specs.Code.{paddedAfter}
 use Rattle.cipher.proofs.mmo.padded_block_from.Statement.{statement}
 use Rattle.cipher.proofs.mmo.padded_block_from.Tie as tie
 

@@ -2,7 +2,7 @@ use mathlib.Core.Path.{sym, ap, _∙_}
 use native.Mathlib.Omega.{arith}
 use borrow.Author.Needs.{needs}
 use Rattle.octets.specs.Lists.{at}
-use Rattle.cipher.specs.Hash.{paddedAfter}
+use Rattle.cipher.specs.Code.{paddedAfter}
 use Rattle.cipher.proofs.Pads.{pad-plain, pad-mark, pad-high, pad-low, pad-else}
 use Rattle.cipher.proofs.mmo.padded_octet.Statement.{statement}
 use Rattle.cipher.proofs.mmo.padded_octet.Tie as tie
@@ -14,7 +14,8 @@ returns : tie.Need-returns
 returns c = let x = c .before .before .args in sym (pad-plain (x .b) (x .d .now) (x .i) (c .before .if1 .taken))
 
 returns-2 : tie.Need-returns-2
-returns-2 c = let x = c .before .before .args in sym (ap (at (paddedAfter (x .b) (x .d .now))) (c .if2 .taken) ∙ pad-mark (x .b) (x .d .now))
+returns-2 c =
+    let x = c .before .before .args in sym (ap (at (paddedAfter (x .b) (x .d .now))) (c .if2 .taken) ∙ pad-mark (x .b) (x .d .now))
 
 add-end : tie.Need-add-end
 add-end c = search needs
@@ -50,10 +51,15 @@ cast-result-2 : tie.Need-cast-result-2
 cast-result-2 c = search needs
 
 returns-4 : tie.Need-returns-4
-returns-4 c = let x = c .before .before .before .before .args in sym (pad-low (x .b) (x .d .now) (x .i) (c .if4 .taken))
+returns-4 c =
+    let start : tie.Start = search in
+    let x = start .args in
+    sym (pad-low (x .b) (x .d .now) (x .i) (c .if4 .taken))
 
 returns-5 : tie.Need-returns-5
-returns-5 c = let x = c .before .before .before .before .args in
+returns-5 c =
+    let start : tie.Start = search in
+    let x = start .args in
     sym (pad-else (x .b) (x .d .now) (x .i) (omega arith) (c .before .if3 .left) (c .if4 .left))
 
 pub padded-octet-spec : {M : Type 1} → statement M

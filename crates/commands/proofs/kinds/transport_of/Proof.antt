@@ -1,31 +1,38 @@
 use borrow.Author.Tests.{ne-eqb}
-use Rattle.commands.specs.Kinds.{transported}
+use Rattle.commands.specs.Kinds.{transportOf}
 use Rattle.commands.proofs.kinds.transport_of.Statement.{statement}
 use Rattle.commands.proofs.kinds.transport_of.Tie as tie
 
 returns : tie.Need-returns
-unfolding transported
+unfolding transportOf
 returns c = simp (c .match .keys1)
 
 returns-2 : tie.Need-returns-2
-unfolding transported
+unfolding transportOf
 returns-2 c = simp (c .match .keys2)
 
 returns-3 : tie.Need-returns-3
-unfolding transported
+unfolding transportOf
 returns-3 c = simp (c .match .keys3)
 
 returns-4 : tie.Need-returns-4
-unfolding transported
+unfolding transportOf
 returns-4 c = simp (c .match .keys4)
 
 returns-5 : tie.Need-returns-5
-unfolding transported
+unfolding transportOf
 returns-5 c = simp (c .match .keys5)
 
 returns-6 : tie.Need-returns-6
-unfolding transported
-returns-6 c = simp (ne-eqb _ _ (c .match .rest .1), ne-eqb _ _ (c .match .rest .0 .1), ne-eqb _ _ (c .match .rest .0 .0 .1), ne-eqb _ _ (c .match .rest .0 .0 .0 .1), ne-eqb _ _ (c .match .rest .0 .0 .0 .0 .1))
+unfolding transportOf
+returns-6 c =
+    simp (
+      ne-eqb _ _ (c .match .rest .1),
+      ne-eqb _ _ (c .match .rest .0 .1),
+      ne-eqb _ _ (c .match .rest .0 .0 .1),
+      ne-eqb _ _ (c .match .rest .0 .0 .0 .1),
+      ne-eqb _ _ (c .match .rest .0 .0 .0 .0 .1),
+    )
 
 pub transport-of-spec : {M : Type 1} → statement M
 transport-of-spec = tie.close (tie.spec returns returns-2 returns-3 returns-4 returns-5 returns-6)

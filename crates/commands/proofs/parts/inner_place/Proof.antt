@@ -20,7 +20,8 @@ rule-of-requires : tie.Need-rule-of-requires
 rule-of-requires c κs = search needs
 
 add-rest-place : tie.Need-add-rest-place
-add-rest-place c = omega (arith, size-most (c .before .before .before .v .given .0 .0), ap (λ (r : Rule). r .size) (c .before .rule-of .ensures))
+add-rest-place c =
+    omega (arith, size-most (c .before .before .before .v .given .0 .0), ap (λ (r : Rule). r .size) (c .before .rule-of .ensures))
 
 rest-place-requires : tie.Need-rest-place-requires
 rest-place-requires c κs = search needs
@@ -34,7 +35,10 @@ returns c = simp (c .nowhere .ensures, c .before .enum-told .given .1)
 
 returns-2 : tie.Need-returns-2
 unfolding innerPlace
-returns-2 c = simp (c .inner-in .ensures, ← c .before .rest-place .ensures, ← c .before .before .before .rule-of .ensures, c .before .before .before .before .before .v .given .1)
+returns-2 c =
+    let after-rule-of : tie.After-rule-of = search in
+    let after-v : tie.After-v = search in
+    simp (c .inner-in .ensures, ← c .before .rest-place .ensures, ← after-rule-of .rule-of .ensures, after-v .v .given .1)
 
 pub inner-place-spec : {M : Type 1} → statement M
 inner-place-spec =

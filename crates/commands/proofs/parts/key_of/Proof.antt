@@ -1,6 +1,6 @@
 use mathlib.Core.Path.{ap, _∙_}
 use borrow.Author.Needs.{needs}
-use Rattle.commands.specs.Parts.{cut, keyPlace}
+use Rattle.commands.specs.Parts.{cutAt, keyPlace}
 use Rattle.commands.proofs.Bounds.{key-holds}
 use Rattle.commands.proofs.parts.key_of.Statement.{statement}
 use Rattle.commands.proofs.parts.key_of.Tie as tie
@@ -15,7 +15,11 @@ part-of-requires : tie.Need-part-of-requires
 part-of-requires c κs = key-holds _ _ _ _ (c .before .judge-frame .ensures) (c .key-place .ensures)
 
 returns : tie.Need-returns
-returns c = c .part-of .ensures ∙ ap (cut (c .before .before .before .before .args .f)) (c .before .key-place .ensures ∙ ap keyPlace (c .before .before .judge-frame .ensures))
+returns c =
+    let after-judge-frame : tie.After-judge-frame = search in
+    let start : tie.Start = search in
+    c .part-of .ensures ∙ ap (cutAt (start .args .f)) (c .before .key-place .ensures
+    ∙ ap keyPlace (after-judge-frame .judge-frame .ensures))
 
 pub key-of-spec : {M : Type 1} → statement M
 key-of-spec = tie.close (tie.spec judge-frame-requires key-place-requires part-of-requires returns)

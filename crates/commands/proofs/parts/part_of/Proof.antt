@@ -1,6 +1,7 @@
 use mathlib.Core.Path.{refl}
 use borrow.Author.Needs.{needs}
-use Rattle.commands.proofs.Bounds.{same-part, upto}
+use Rattle.octets.proofs.Parts.{same-part}
+use Rattle.commands.proofs.Bounds.{upto}
 use Rattle.commands.proofs.parts.part_of.Statement.{statement}
 use Rattle.commands.proofs.parts.part_of.Tie as tie
 

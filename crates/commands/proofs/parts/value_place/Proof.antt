@@ -36,16 +36,34 @@ enum-known-i : tie.Need-enum-known-i
 enum-known-i c = search needs
 
 add-t14 : tie.Need-add-t14
-add-t14 c = omega (arith, found-holds (c .before .before .before .before .before .before .before .args .f .now) (c .before .before .before .before .before .before .before .args .tag) (c .before .before .before .before .before .before .before .args .place) _ (c .before .before .before .first-of .ensures) (c .before .before .before .before .before .before .before .pre) _ _ (c .before .i .given .1))
+add-t14 c =
+    let after-first-of : tie.After-first-of = search in
+    let start : tie.Start = search in
+    omega (
+      arith,
+      found-holds (start .args .f .now) (start .args .tag) (start .args .place) _ (after-first-of .first-of .ensures) (start .pre) _ _
+          (c .before .i .given .1),
+    )
 
 returns : tie.Need-returns
-returns c = c .nowhere .ensures ∙ value-at (c .before .before .before .before .before .before .before .args .f .now) (c .before .before .before .before .before .before .before .args .tag) (c .before .before .before .before .before .before .before .args .place) _ (c .before .before .before .first-of .ensures) _ (c .before .enum-told .given .1)
+returns c =
+    let after-first-of : tie.After-first-of = search in
+    let start : tie.Start = search in
+    c .nowhere .ensures ∙ value-at (start .args .f .now) (start .args .tag) (start .args .place) _ (after-first-of .first-of .ensures) _
+    (c .before .enum-told .given .1)
 
 returns-2 : tie.Need-returns-2
-returns-2 c = c .nowhere2 .ensures ∙ value-at (c .before .before .before .before .before .before .before .args .f .now) (c .before .before .before .before .before .before .before .args .tag) (c .before .before .before .before .before .before .before .args .place) _ (c .before .before .before .first-of .ensures) _ (c .before .enum-told2 .given .1)
+returns-2 c =
+    let after-first-of : tie.After-first-of = search in
+    let start : tie.Start = search in
+    c .nowhere2 .ensures ∙ value-at (start .args .f .now) (start .args .tag) (start .args .place) _ (after-first-of .first-of .ensures) _
+    (c .before .enum-told2 .given .1)
 
 returns-3 : tie.Need-returns-3
-returns-3 c = value-at (c .before .before .before .before .before .before .before .args .f .now) (c .before .before .before .before .before .before .before .args .tag) (c .before .before .before .before .before .before .before .args .place) _ (c .before .before .before .first-of .ensures) _ (c .before .i .given .1)
+returns-3 c =
+    let after-first-of : tie.After-first-of = search in
+    let start : tie.Start = search in
+    value-at (start .args .f .now) (start .args .tag) (start .args .place) _ (after-first-of .first-of .ensures) _ (c .before .i .given .1)
 
 pub value-place-spec : {M : Type 1} → statement M
 value-place-spec =

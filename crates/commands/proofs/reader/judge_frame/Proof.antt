@@ -34,15 +34,40 @@ judge-listed-requires c κs = search needs
 
 returns-3 : tie.Need-returns-3
 unfolding judge judgeHeader
-returns-3 c = simp (sym (c .before .before .before .read-aps-command .ensures) ∙ ap toldRead (c .before .r .given .1), le-ltb _ _ (c .before .before .before .before .if2 .left), sym (c .before .before .before .before .before .before .is-known .ensures) ∙ not-false _ (c .before .before .before .before .before .if1 .left))
+returns-3 c =
+    let after-read-aps-command : tie.After-read-aps-command = search in
+    let else2 : tie.Else2 = search in
+    let else1 : tie.Else1 = search in
+    simp (
+      sym (after-read-aps-command .read-aps-command .ensures) ∙ ap toldRead (c .before .r .given .1),
+      le-ltb _ _ (else2 .if2 .left),
+      sym (else1 .before .is-known .ensures) ∙ not-false _ (else1 .if1 .left),
+    )
 
 returns-4 : tie.Need-returns-4
 unfolding judge judgeHeader
-returns-4 c = simp (sym (c .before .before .read-aps-command .ensures) ∙ ap toldRead (c .enum-told .given .1), le-ltb _ _ (c .before .before .before .if2 .left), sym (c .before .before .before .before .before .is-known .ensures) ∙ not-false _ (c .before .before .before .before .if1 .left))
+returns-4 c =
+    let after-read-aps-command : tie.After-read-aps-command = search in
+    let else2 : tie.Else2 = search in
+    let else1 : tie.Else1 = search in
+    simp (
+      sym (after-read-aps-command .read-aps-command .ensures) ∙ ap toldRead (c .enum-told .given .1),
+      le-ltb _ _ (else2 .if2 .left),
+      sym (else1 .before .is-known .ensures) ∙ not-false _ (else1 .if1 .left),
+    )
 
 returns-5 : tie.Need-returns-5
 unfolding judge judgeHeader
-returns-5 c = simp (c .judge-listed .ensures, sym (c .before .before .before .read-aps-command .ensures) ∙ ap toldRead (c .before .enum-told2 .given .1), le-ltb _ _ (c .before .before .before .before .if2 .left), sym (c .before .before .before .before .before .before .is-known .ensures) ∙ not-false _ (c .before .before .before .before .before .if1 .left))
+returns-5 c =
+    let after-read-aps-command : tie.After-read-aps-command = search in
+    let else2 : tie.Else2 = search in
+    let else1 : tie.Else1 = search in
+    simp (
+      c .judge-listed .ensures,
+      sym (after-read-aps-command .read-aps-command .ensures) ∙ ap toldRead (c .before .enum-told2 .given .1),
+      le-ltb _ _ (else2 .if2 .left),
+      sym (else1 .before .is-known .ensures) ∙ not-false _ (else1 .if1 .left),
+    )
 
 pub judge-frame-spec : {M : Type 1} → statement M
 judge-frame-spec =

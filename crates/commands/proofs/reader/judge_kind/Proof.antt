@@ -33,18 +33,49 @@ fits-rest-requires c κs = search needs
 
 returns-2 : tie.Need-returns-2
 unfolding judgeKind
-returns-2 c = simp (rest-fits _ (2 + c .before .before .before .before .before .rule-of .result .size) (c .before .before .before .before .before .before .before .args .f .now) _ (c .before .fits-rest .ensures) ∙ not-true _ (c .if2 .taken), le-ltb _ _ (c .before .before .before .if1 .left), ← c .before .before .before .before .before .rule-of .ensures)
+returns-2 c =
+    let else1 : tie.Else1 = search in
+    let after-rule-of : tie.After-rule-of = search in
+    let start : tie.Start = search in
+    simp (
+      rest-fits _ (2 + after-rule-of .rule-of .result .size) (start .args .f .now) _ (c .before .fits-rest .ensures) ∙ not-true _
+          (c .if2 .taken),
+      le-ltb _ _ (else1 .if1 .left),
+      ← after-rule-of .rule-of .ensures,
+    )
 
 is-allowed-requires : tie.Need-is-allowed-requires
 is-allowed-requires c κs = search needs
 
 returns-3 : tie.Need-returns-3
 unfolding judgeKind
-returns-3 c = simp (sym (c .before .is-allowed .ensures) ∙ not-true _ (c .if3 .taken), rest-fits _ (2 + c .before .before .before .before .before .before .before .rule-of .result .size) (c .before .before .before .before .before .before .before .before .before .args .f .now) _ (c .before .before .before .fits-rest .ensures) ∙ not-false _ (c .before .before .if2 .left), le-ltb _ _ (c .before .before .before .before .before .if1 .left), ← c .before .before .before .before .before .before .before .rule-of .ensures)
+returns-3 c =
+    let else2 : tie.Else2 = search in
+    let else1 : tie.Else1 = search in
+    let after-rule-of : tie.After-rule-of = search in
+    let start : tie.Start = search in
+    simp (
+      sym (c .before .is-allowed .ensures) ∙ not-true _ (c .if3 .taken),
+      rest-fits _ (2 + after-rule-of .rule-of .result .size) (start .args .f .now) _ (else2 .before .fits-rest .ensures) ∙ not-false _
+          (else2 .if2 .left),
+      le-ltb _ _ (else1 .if1 .left),
+      ← after-rule-of .rule-of .ensures,
+    )
 
 returns-4 : tie.Need-returns-4
 unfolding judgeKind
-returns-4 c = simp (sym (c .before .is-allowed .ensures) ∙ not-false _ (c .if3 .left), rest-fits _ (2 + c .before .before .before .before .before .before .before .rule-of .result .size) (c .before .before .before .before .before .before .before .before .before .args .f .now) _ (c .before .before .before .fits-rest .ensures) ∙ not-false _ (c .before .before .if2 .left), le-ltb _ _ (c .before .before .before .before .before .if1 .left), ← c .before .before .before .before .before .before .before .rule-of .ensures)
+returns-4 c =
+    let else2 : tie.Else2 = search in
+    let else1 : tie.Else1 = search in
+    let after-rule-of : tie.After-rule-of = search in
+    let start : tie.Start = search in
+    simp (
+      sym (c .before .is-allowed .ensures) ∙ not-false _ (c .if3 .left),
+      rest-fits _ (2 + after-rule-of .rule-of .result .size) (start .args .f .now) _ (else2 .before .fits-rest .ensures) ∙ not-false _
+          (else2 .if2 .left),
+      le-ltb _ _ (else1 .if1 .left),
+      ← after-rule-of .rule-of .ensures,
+    )
 
 pub judge-kind-spec : {M : Type 1} → statement M
 judge-kind-spec =

@@ -24,11 +24,29 @@ judge-kind-requires c κs = search needs
 
 returns : tie.Need-returns
 unfolding judgeListed
-returns c = simp (sym (c .before .before .find-kind .ensures) ∙ c .enum-told .given .1, ← c .before .before .before .octet2 .ensures, ← c .before .before .before .before .octet .ensures)
+returns c =
+    let after-find-kind : tie.After-find-kind = search in
+    let after-octet2 : tie.After-octet2 = search in
+    let after-octet : tie.After-octet = search in
+    simp (
+      sym (after-find-kind .find-kind .ensures) ∙ c .enum-told .given .1,
+      ← after-octet2 .octet2 .ensures,
+      ← after-octet .octet .ensures,
+    )
 
 returns-2 : tie.Need-returns-2
 unfolding judgeListed
-returns-2 c = simp (c .judge-kind .ensures, sym (c .before .before .before .before .find-kind .ensures) ∙ c .before .before .k .given .1, ← c .before .before .before .before .before .octet2 .ensures, ← c .before .before .before .before .before .before .octet .ensures)
+returns-2 c =
+    let after-k : tie.After-k = search in
+    let after-find-kind : tie.After-find-kind = search in
+    let after-octet2 : tie.After-octet2 = search in
+    let after-octet : tie.After-octet = search in
+    simp (
+      c .judge-kind .ensures,
+      sym (after-find-kind .find-kind .ensures) ∙ after-k .k .given .1,
+      ← after-octet2 .octet2 .ensures,
+      ← after-octet .octet .ensures,
+    )
 
 pub judge-listed-spec : {M : Type 1} → statement M
 judge-listed-spec =

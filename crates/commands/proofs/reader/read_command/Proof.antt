@@ -1,6 +1,7 @@
 use mathlib.Core.Path.{sym, ap, _∙_}
 use borrow.Author.Needs.{needs}
-use Rattle.commands.specs.Reading.{toldJudged, readCommand}
+use Rattle.commands.specs.Reading.{readCommand}
+use Rattle.commands.specs.Code.{toldJudged}
 use Rattle.commands.proofs.reader.read_command.Statement.{statement}
 use Rattle.commands.proofs.reader.read_command.Tie as tie
 
@@ -22,7 +23,10 @@ returns c = simp (sym (c .before .before .before .judge-frame .ensures) ∙ ap t
 
 returns-2 : tie.Need-returns-2
 unfolding readCommand
-returns-2 c = simp (c .fields-of .ensures, sym (c .before .before .before .before .judge-frame .ensures) ∙ ap toldJudged (c .before .before .k .given .1))
+returns-2 c =
+    let after-k : tie.After-k = search in
+    let after-judge-frame : tie.After-judge-frame = search in
+    simp (c .fields-of .ensures, sym (after-judge-frame .judge-frame .ensures) ∙ ap toldJudged (after-k .k .given .1))
 
 pub read-command-spec : {M : Type 1} → statement M
 read-command-spec =

@@ -44,7 +44,9 @@ returns-3 c = simp (c .enum-told4 .given .1, c .before .before .before .u .given
 
 returns-4 : tie.Need-returns-4
 unfolding allows
-returns-4 c = simp (c .before .p .given .1, c .before .before .before .before .u .given .1)
+returns-4 c =
+    let after-u : tie.After-u = search in
+    simp (c .before .p .given .1, after-u .u .given .1)
 
 returns-5 : tie.Need-returns-5
 unfolding allows
@@ -52,7 +54,9 @@ returns-5 c = simp (c .enum-told5 .given .1, c .before .before .before .u2 .give
 
 returns-6 : tie.Need-returns-6
 unfolding allows
-returns-6 c = simp (c .before .p2 .given .1, c .before .before .before .before .u2 .given .1)
+returns-6 c =
+    let after-u2 : tie.After-u2 = search in
+    simp (c .before .p2 .given .1, after-u2 .u2 .given .1)
 
 pub is-allowed-spec : {M : Type 1} → statement M
 is-allowed-spec =

@@ -32,7 +32,14 @@ returns-5 c = simp (c .match2 .keys4, c .before .before .p .given .1)
 
 returns-6 : tie.Need-returns-6
 unfolding known
-returns-6 c = simp (ne-eqb _ _ (c .match2 .rest .1), ne-eqb _ _ (c .match2 .rest .0 .1), ne-eqb _ _ (c .match2 .rest .0 .0 .1), ne-eqb _ _ (c .match2 .rest .0 .0 .0 .1), c .before .before .p .given .1)
+returns-6 c =
+    simp (
+      ne-eqb _ _ (c .match2 .rest .1),
+      ne-eqb _ _ (c .match2 .rest .0 .1),
+      ne-eqb _ _ (c .match2 .rest .0 .0 .1),
+      ne-eqb _ _ (c .match2 .rest .0 .0 .0 .1),
+      c .before .before .p .given .1,
+    )
 
 pub is-known-spec : {M : Type 1} → statement M
 is-known-spec =

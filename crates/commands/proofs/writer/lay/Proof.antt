@@ -3,7 +3,7 @@ use native.Mathlib.Omega.{arith}
 use lib.ListN.{take}
 use lib.Seq.{length-take-le}
 use borrow.Author.Needs.{needs}
-use Rattle.commands.specs.Writing.{lined}
+use Rattle.commands.specs.Code.{lined}
 use Rattle.commands.proofs.Laid.{laid-all}
 use Rattle.commands.proofs.writer.lay.Statement.{statement}
 use Rattle.commands.proofs.writer.lay.Tie as tie
@@ -18,7 +18,9 @@ array-share-prefix-octets : tie.Need-array-share-prefix-octets
 array-share-prefix-octets c = search needs
 
 slice-aggregate-paste-at-2 : tie.Need-slice-aggregate-paste-at-2
-slice-aggregate-paste-at-2 c = sym (length-take-le _ (c .before .before .before .before .before .before .before .before .before .before .args .own .octets) (omega arith))
+slice-aggregate-paste-at-2 c =
+    let start : tie.Start = search in
+    sym (length-take-le _ (start .args .own .octets) (omega arith))
 
 paste-at-requires-2 : tie.Need-paste-at-requires-2
 paste-at-requires-2 c κs = search needs
@@ -41,8 +43,16 @@ same-length c = search needs
 returns : tie.Need-returns
 unfolding lined
 returns c =
-    let x = c .before .before .before .before .before .before .before .before .before .before .before .before .before .before .before .before .before .args in
-    (refl, laid-all (x .out .now) _ _ _ _ _ (take (x .own .count) (x .own .octets)) (x .rest .now) (x .own .count) (length-take-le _ (x .own .octets) (omega arith)) (c .before .before .before .before .before .before .before .before .before .before .before .paste-at .ensures) (c .before .before .before .before .before .before .paste-at2 .ensures) (c .before .before .paste-at3 .ensures) (c .before .before .before .before .before .before .before .before .before .before .before .before .before .before .before .before .before .pre .2))
+    let after-paste-at3 : tie.After-paste-at3 = search in
+    let after-paste-at2 : tie.After-paste-at2 = search in
+    let after-paste-at : tie.After-paste-at = search in
+    let start : tie.Start = search in
+    let x = start .args in (
+      refl,
+      laid-all (x .out .now) _ _ _ _ _ (take (x .own .count) (x .own .octets)) (x .rest .now) (x .own .count)
+          (length-take-le _ (x .own .octets) (omega arith)) (after-paste-at .paste-at .ensures) (after-paste-at2 .paste-at2 .ensures)
+          (after-paste-at3 .paste-at3 .ensures) (start .pre .2),
+    )
 
 pub lay-spec : {M : Type 1} → statement M
 lay-spec =

@@ -1,5 +1,5 @@
 use borrow.Author.Needs.{needs}
-use Rattle.commands.specs.Writing.{lined}
+use Rattle.commands.specs.Code.{lined}
 use Rattle.commands.proofs.writer.led_by.Statement.{statement}
 use Rattle.commands.proofs.writer.led_by.Tie as tie
 

@@ -13,7 +13,11 @@ with-part-requires : tie.Need-with-part-requires
 with-part-requires c κs = search needs
 
 returns : tie.Need-returns
-returns c = (omega arith, c .with-part .ensures .1, simp (c .with-part .ensures .2, c .before .with-octet .ensures .2, c .before .before .led-by .ensures .2))
+returns c = (
+  omega arith,
+  c .with-part .ensures .1,
+  simp (c .with-part .ensures .2, c .before .with-octet .ensures .2, c .before .before .led-by .ensures .2),
+)
 
 pub with-key-spec : {M : Type 1} → statement M
 with-key-spec = tie.close (tie.spec led-by-requires with-octet-requires with-part-requires returns)

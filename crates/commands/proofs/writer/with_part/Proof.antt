@@ -1,6 +1,6 @@
 use native.Mathlib.Omega.{arith}
 use borrow.Author.Needs.{needs}
-use Rattle.commands.specs.Writing.{lined}
+use Rattle.commands.specs.Code.{lined}
 use Rattle.commands.proofs.Laid.{line-more}
 use Rattle.commands.proofs.writer.with_part.Statement.{statement}
 use Rattle.commands.proofs.writer.with_part.Tie as tie
@@ -16,7 +16,9 @@ add-t10 c = search needs
 
 returns : tie.Need-returns
 unfolding lined
-returns c = (search needs, search needs, line-more (c .before .before .before .before .before .args .l .octets) _ _ _ (c .before .paste-at .ensures) (omega arith))
+returns c =
+    let start : tie.Start = search in
+    (search needs, search needs, line-more (start .args .l .octets) _ _ _ (c .before .paste-at .ensures) (omega arith))
 
 pub with-part-spec : {M : Type 1} → statement M
 with-part-spec = tie.close (tie.spec slice-aggregate-paste-at paste-at-requires add-t10 returns)

@@ -30,29 +30,59 @@ refuse-requires-2 : tie.Need-refuse-requires-2
 refuse-requires-2 c κs = search needs
 
 returns-2 : tie.Need-returns-2
-returns-2 c = frame-up _ (c .refuse2 .ensures .0) (c .refuse2 .ensures .1) ∙ refuses-parts _ _ _ _ _ _ _ (c .before .before .before .rule-of .ensures ∙ ap ruleOf (c .before .before .before .before .kind-of .ensures)) (c .before .before .before .before .before .if1 .left) (sym (c .before .before .is-whole .ensures) ∙ not-true _ (c .before .if2 .taken))
+returns-2 c =
+    let then2 : tie.Then2 = search in
+    let after-rule-of : tie.After-rule-of = search in
+    let after-kind-of : tie.After-kind-of = search in
+    let else1 : tie.Else1 = search in
+    frame-up _ (c .refuse2 .ensures .0) (c .refuse2 .ensures .1) ∙ refuses-parts _ _ _ _ _ _ _
+    (after-rule-of .rule-of .ensures ∙ ap ruleOf (after-kind-of .kind-of .ensures)) (else1 .if1 .left)
+    (sym (then2 .before .is-whole .ensures) ∙ not-true _ (then2 .if2 .taken))
 
 sub-if3 : tie.Need-sub-if3
-sub-if3 c = omega (arith, size-most (c .before .before .before .before .kind-of .result), ap (λ (r : Rule). r .size) (c .before .before .before .rule-of .ensures))
+sub-if3 c =
+    let after-rule-of : tie.After-rule-of = search in
+    let after-kind-of : tie.After-kind-of = search in
+    omega (arith, size-most (after-kind-of .kind-of .result), ap (λ (r : Rule). r .size) (after-rule-of .rule-of .ensures))
 
 refuse-requires-3 : tie.Need-refuse-requires-3
 refuse-requires-3 c κs = search needs
 
 returns-3 : tie.Need-returns-3
-returns-3 c = frame-up _ (c .refuse3 .ensures .0) (c .refuse3 .ensures .1) ∙ refuses-long _ _ _ _ _ _ _ (c .before .before .before .before .before .rule-of .ensures ∙ ap ruleOf (c .before .before .before .before .before .before .kind-of .ensures)) (c .before .before .before .before .before .before .before .if1 .left) (sym (c .before .before .before .before .is-whole .ensures) ∙ not-false _ (c .before .before .before .if2 .left)) (c .before .if3 .taken)
+returns-3 c =
+    let else2 : tie.Else2 = search in
+    let after-rule-of : tie.After-rule-of = search in
+    let after-kind-of : tie.After-kind-of = search in
+    let else1 : tie.Else1 = search in
+    frame-up _ (c .refuse3 .ensures .0) (c .refuse3 .ensures .1) ∙ refuses-long _ _ _ _ _ _ _
+    (after-rule-of .rule-of .ensures ∙ ap ruleOf (after-kind-of .kind-of .ensures)) (else1 .if1 .left)
+    (sym (else2 .before .is-whole .ensures) ∙ not-false _ (else2 .if2 .left)) (c .before .if3 .taken)
 
 control-of-requires : tie.Need-control-of-requires
 control-of-requires c κs = search needs
 
 own-octets-requires : tie.Need-own-octets-requires
-own-octets-requires c κs = lent-secret (c .before .before .before .before .before .before .before .before .before .before .args .b) true (c .before .before .before .before .before .before .before .before .before .before .args .c) _ _ (c .before .before .before .before .before .before .before .before .before .before .args .out .now) _ (c .before .before .before .before .rule-of .ensures ∙ ap ruleOf (c .before .before .before .before .before .kind-of .ensures)) (sym (c .before .before .before .is-whole .ensures) ∙ not-false _ (c .before .before .if2 .left))
+own-octets-requires c κs =
+    let else2 : tie.Else2 = search in
+    let after-rule-of : tie.After-rule-of = search in
+    let after-kind-of : tie.After-kind-of = search in
+    let start : tie.Start = search in
+    lent-secret (start .args .b) true (start .args .c) _ _ (start .args .out .now) _
+    (after-rule-of .rule-of .ensures ∙ ap ruleOf (after-kind-of .kind-of .ensures))
+    (sym (else2 .before .is-whole .ensures) ∙ not-false _ (else2 .if2 .left))
 
 lay-requires : tie.Need-lay-requires
 lay-requires c κs =
-    let n = c .before .before .before .own-octets .ensures in
-    let s = ap (λ (r : Rule). r .size) (c .before .before .before .before .before .before .before .before .rule-of .ensures ∙ ap ruleOf (c .before .before .before .before .before .before .before .before .before .kind-of .ensures)) in
-    let m = size-most (kindOf (c .before .before .before .before .before .before .before .before .before .before .before .before .before .before .args .c)) in
-    (omega (arith, n .0, m), n .1, omega (arith, n .0, s, m, c .before .before .before .before .if3 .left, c .before .before .before .before .before .before .before .before .before .before .if1 .left))
+    let after-own-octets : tie.After-own-octets = search in
+    let else3 : tie.Else3 = search in
+    let after-rule-of : tie.After-rule-of = search in
+    let after-kind-of : tie.After-kind-of = search in
+    let else1 : tie.Else1 = search in
+    let start : tie.Start = search in
+    let n = after-own-octets .own-octets .ensures in
+    let s = ap (λ (r : Rule). r .size) (after-rule-of .rule-of .ensures ∙ ap ruleOf (after-kind-of .kind-of .ensures)) in
+    let m = size-most (kindOf (start .args .c)) in
+    (omega (arith, n .0, m), n .1, omega (arith, n .0, s, m, else3 .if3 .left, else1 .if1 .left))
 
 counted-requires : tie.Need-counted-requires
 counted-requires c κs = search needs
@@ -62,9 +92,21 @@ same-length c = search needs
 
 returns-4 : tie.Need-returns-4
 returns-4 c =
-    let n = c .before .before .before .before .before .before .own-octets .ensures in
-    writes _ _ _ _ _ _ _ (c .before .before .before .before .before .before .before .before .before .before .before .rule-of .ensures ∙ ap ruleOf (c .before .before .before .before .before .before .before .before .before .before .before .before .kind-of .ensures)) (c .before .before .before .before .before .before .before .before .before .before .before .before .before .if1 .left) (sym (c .before .before .before .before .before .before .before .before .before .before .is-whole .ensures) ∙ not-false _ (c .before .before .before .before .before .before .before .before .before .if2 .left)) (c .before .before .before .before .before .before .before .if3 .left) _ (c .before .before .before .before .before .before .own-octets .result) _ _ _
-    (c .before .before .before .before .control-of .ensures) (n .0) (n .2) (c .before .before .lay .ensures .0) (c .before .before .before .before .before .counted .ensures) (c .before .before .lay .ensures .1)
+    let after-lay : tie.After-lay = search in
+    let after-control-of : tie.After-control-of = search in
+    let after-counted : tie.After-counted = search in
+    let after-own-octets : tie.After-own-octets = search in
+    let else3 : tie.Else3 = search in
+    let else2 : tie.Else2 = search in
+    let after-rule-of : tie.After-rule-of = search in
+    let after-kind-of : tie.After-kind-of = search in
+    let else1 : tie.Else1 = search in
+    let n = after-own-octets .own-octets .ensures in
+    writes _ _ _ _ _ _ _ (after-rule-of .rule-of .ensures ∙ ap ruleOf (after-kind-of .kind-of .ensures)) (else1 .if1 .left)
+    (sym (else2 .before .is-whole .ensures) ∙ not-false _ (else2 .if2 .left)) (else3 .if3 .left) _ (after-own-octets .own-octets .result) _
+    _ _
+    (after-control-of .control-of .ensures) (n .0) (n .2) (after-lay .lay .ensures .0) (after-counted .counted .ensures)
+    (after-lay .lay .ensures .1)
 
 pub write-command-spec : {M : Type 1} → statement M
 write-command-spec =

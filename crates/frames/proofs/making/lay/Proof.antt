@@ -7,14 +7,19 @@ use Rattle.frames.proofs.making.lay.Tie as tie
 
 returns : tie.Need-returns
 returns c = let x = c .before .before .before .args in
-    sym (laid-short (x .out .now) (x .f .now) (x .n) (x .i) (x .x) (c .if1 .taken))
+    sym (laid-short (x .out .now) (x .f .now) (x .n) _ (c .if1 .taken))
 
 returns-2 : tie.Need-returns-2
-returns-2 c = let x = c .before .before .before .before .args in
-    sym (laid-tight (x .out .now) (x .f .now) (x .n) (x .i) (x .x) (c .before .if1 .left) (c .if2 .taken))
+returns-2 c =
+    let start : tie.Start = search in
+    let x = start .args in
+    sym (laid-tight (x .out .now) (x .f .now) (x .n) _ (c .before .if1 .left) (c .if2 .taken))
 
 slice-aggregate-paste-at : tie.Need-slice-aggregate-paste-at
-slice-aggregate-paste-at c = sym (length-take-le (c .before .before .before .before .before .before .args .n) (c .before .before .before .before .before .before .args .f .now) (c .before .before .before .if1 .left))
+slice-aggregate-paste-at c =
+    let else1 : tie.Else1 = search in
+    let start : tie.Start = search in
+    sym (length-take-le (start .args .n) (start .args .f .now) (else1 .if1 .left))
 
 paste-at-requires : tie.Need-paste-at-requires
 paste-at-requires c κs = search needs
@@ -26,15 +31,27 @@ same-length : tie.Need-same-length
 same-length c = search needs
 
 returns-3 : tie.Need-returns-3
-returns-3 c = let x = c .before .before .before .before .before .before .before .before .before .before .args in
-    laid-in (x .out .now) (x .f .now) (x .n) (x .i) (x .x) (c .before .before .before .before .before .before .before .if1 .left) (c .before .before .before .before .before .before .if2 .left) _ (c .before .before .before .paste-at .ensures) (c .if3 .taken)
+returns-3 c =
+    let start : tie.Start = search in
+    let x = start .args in
+    let after-paste-at : tie.After-paste-at = search in
+    let else2 : tie.Else2 = search in
+    let else1 : tie.Else1 = search in
+    laid-in (x .out .now) (x .f .now) (x .n) (x .i) (x .x) (else1 .if1 .left) (else2 .if2 .left) _ (after-paste-at .paste-at .ensures)
+    (c .if3 .taken)
 
 same-length-2 : tie.Need-same-length-2
 same-length-2 c = search needs
 
 returns-4 : tie.Need-returns-4
-returns-4 c = let x = c .before .before .before .before .before .before .before .before .before .before .args in
-    laid-out (x .out .now) (x .f .now) (x .n) (x .i) (x .x) (c .before .before .before .before .before .before .before .if1 .left) (c .before .before .before .before .before .before .if2 .left) _ (c .before .before .before .paste-at .ensures) (c .if3 .left)
+returns-4 c =
+    let start : tie.Start = search in
+    let x = start .args in
+    let after-paste-at : tie.After-paste-at = search in
+    let else2 : tie.Else2 = search in
+    let else1 : tie.Else1 = search in
+    laid-out (x .out .now) (x .f .now) (x .n) (x .i) (x .x) (else1 .if1 .left) (else2 .if2 .left) _ (after-paste-at .paste-at .ensures)
+    (c .if3 .left)
 
 pub lay-spec : {M : Type 1} → statement M
 lay-spec =

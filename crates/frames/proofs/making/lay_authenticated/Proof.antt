@@ -1,6 +1,6 @@
 use mathlib.Core.Path.{refl}
 use borrow.Author.Needs.{needs}
-use Rattle.frames.specs.Security.{withLevel}
+use Rattle.frames.specs.Security.{withLevel, authenticated}
 use Rattle.frames.proofs.Layings.{laid-over}
 use Rattle.frames.proofs.making.lay_authenticated.Statement.{statement}
 use Rattle.frames.proofs.making.lay_authenticated.Tie as tie
@@ -18,7 +18,12 @@ same-length : tie.Need-same-length
 same-length c = search needs
 
 returns : tie.Need-returns
-returns c = laid-over _ _ _ _ _ _ _ _ withLevel (c .before .before .lay .ensures) refl (c .before .before .before .with-level .ensures) (c .before .before .before .before .octet .ensures)
+unfolding authenticated
+returns c =
+    let after-lay : tie.After-lay = search in
+    let after-with-level : tie.After-with-level = search in
+    let after-octet : tie.After-octet = search in
+    laid-over _ _ _ _ _ _ _ _ withLevel (after-lay .lay .ensures) refl (after-with-level .with-level .ensures) (after-octet .octet .ensures)
 
 pub lay-authenticated-spec : {M : Type 1} → statement M
 lay-authenticated-spec =

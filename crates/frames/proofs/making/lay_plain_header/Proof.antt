@@ -1,5 +1,5 @@
 use borrow.Author.Needs.{needs}
-use Rattle.frames.specs.Making.{bitValue, cleared}
+use Rattle.frames.specs.Making.{bitValue, cleared, plainHeader}
 use Rattle.frames.proofs.Layings.{laid-over}
 use Rattle.frames.proofs.making.lay_plain_header.Statement.{statement}
 use Rattle.frames.proofs.making.lay_plain_header.Tie as tie
@@ -20,7 +20,15 @@ same-length : tie.Need-same-length
 same-length c = search needs
 
 returns : tie.Need-returns
-returns c = laid-over _ _ _ _ _ _ _ _ (cleared (bitValue (c .before .before .before .before .before .before .before .before .before .args .l))) (c .before .before .lay .ensures) (c .before .before .before .before .before .before .place .ensures) (c .before .before .before .clear .ensures) (c .before .before .before .before .octet .ensures)
+unfolding plainHeader
+returns c =
+    let after-lay : tie.After-lay = search in
+    let after-clear : tie.After-clear = search in
+    let after-octet : tie.After-octet = search in
+    let after-place : tie.After-place = search in
+    let start : tie.Start = search in
+    laid-over _ _ _ _ _ _ _ _ (cleared (bitValue (start .args .l))) (after-lay .lay .ensures) (after-place .place .ensures)
+    (after-clear .clear .ensures) (after-octet .octet .ensures)
 
 pub lay-plain-header-spec : {M : Type 1} → statement M
 lay-plain-header-spec =

@@ -1,5 +1,5 @@
 use borrow.Author.Needs.{needs}
-use Rattle.frames.specs.Making.{raised}
+use Rattle.frames.specs.Making.{cleared, raised}
 use Rattle.frames.proofs.making.raise.Statement.{statement}
 use Rattle.frames.proofs.making.raise.Tie as tie
 
@@ -28,11 +28,11 @@ add-result-2 : tie.Need-add-result-2
 add-result-2 c = search needs
 
 returns : tie.Need-returns
-unfolding raised
+unfolding raised cleared
 returns c = simp (c .enum-told .given .1)
 
 returns-2 : tie.Need-returns-2
-unfolding raised
+unfolding raised cleared
 returns-2 c = simp (c .enum-told2 .given .1)
 
 pub raise-spec : {M : Type 1} → statement M

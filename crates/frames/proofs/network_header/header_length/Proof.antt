@@ -25,7 +25,10 @@ add-result-2 c = search needs
 
 returns : tie.Need-returns
 unfolding networkHeader
-returns c = (simp (eq-eqb _ _ (c .before .if1 .taken), ← c .before .before .base .ensures .0, ← c .octet .ensures), omega (arith, c .before .before .base .ensures .1))
+returns c = (
+  simp (eq-eqb _ _ (c .before .if1 .taken), ← c .before .before .base .ensures .0, ← c .octet .ensures),
+  omega (arith, c .before .before .base .ensures .1),
+)
 
 returns-2 : tie.Need-returns-2
 unfolding networkHeader

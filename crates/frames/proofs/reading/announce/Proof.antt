@@ -24,7 +24,13 @@ sequence-requires c κs = search needs
 
 returns : tie.Need-returns
 unfolding announced counterOf
-returns c = simp (c .before .before .before .aux-length .ensures .0, c .before .before .number4 .ensures, c .before .sender .ensures, c .sequence .ensures)
+returns c =
+    simp (
+      c .before .before .before .aux-length .ensures .0,
+      c .before .before .number4 .ensures,
+      c .before .sender .ensures,
+      c .sequence .ensures,
+    )
 
 pub announce-spec : {M : Type 1} → statement M
 announce-spec =

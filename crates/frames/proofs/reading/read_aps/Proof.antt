@@ -17,7 +17,12 @@ form-requires c κs = search needs
 
 returns-2 : tie.Need-returns-2
 unfolding readAps
-returns-2 c = simp (le-ltb _ _ (c .before .before .before .if1 .left), ← c .before .before .octet .ensures, sym (c .before .form .ensures) ∙ not-true _ (c .if2 .taken))
+returns-2 c =
+    simp (
+      le-ltb _ _ (c .before .before .before .if1 .left),
+      ← c .before .before .octet .ensures,
+      sym (c .before .form .ensures) ∙ not-true _ (c .if2 .taken),
+    )
 
 header-length-requires : tie.Need-header-length-requires
 header-length-requires c κs = search needs
@@ -25,28 +30,45 @@ header-length-requires c κs = search needs
 is-secured-requires : tie.Need-is-secured-requires
 is-secured-requires c κs = search needs
 
-octet-requires-2 : tie.Need-octet-requires-2
-octet-requires-2 c κs = search needs
-
-identifier-requires : tie.Need-identifier-requires
-identifier-requires c κs = search needs
-
-is-keyed-requires : tie.Need-is-keyed-requires
-is-keyed-requires c κs = search needs
-
 secured-behind-requires : tie.Need-secured-behind-requires
 secured-behind-requires c κs = search needs
 
 returns-3 : tie.Need-returns-3
 unfolding readAps
-returns-3 c = simp (le-ltb _ _ (c .before .before .before .before .before .before .before .before .before .before .if1 .left), ← c .before .before .before .before .before .before .before .before .before .octet .ensures, sym (c .before .before .before .before .before .before .before .before .form .ensures) ∙ not-false _ (c .before .before .before .before .before .before .before .if2 .left), ← c .before .before .before .before .before .before .header-length .ensures .0, sym (c .before .before .before .before .before .is-secured .ensures) ∙ c .before .before .before .before .if3 .taken, ← c .before .before .before .octet2 .ensures, ← c .before .before .identifier .ensures, ← c .before .is-keyed .ensures) (c .secured-behind .ensures)
+returns-3 c =
+    let then3 : tie.Then3 = search in
+    let after-header-length : tie.After-header-length = search in
+    let else2 : tie.Else2 = search in
+    let after-octet : tie.After-octet = search in
+    let else1 : tie.Else1 = search in
+    simp (
+      le-ltb _ _ (else1 .if1 .left),
+      ← after-octet .octet .ensures,
+      sym (else2 .before .form .ensures) ∙ not-false _ (else2 .if2 .left),
+      ← after-header-length .header-length .ensures .0,
+      sym (then3 .before .is-secured .ensures) ∙ then3 .if3 .taken,
+    )
+    (c .secured-behind .ensures)
 
 plain-behind-requires : tie.Need-plain-behind-requires
 plain-behind-requires c κs = search needs
 
 returns-4 : tie.Need-returns-4
 unfolding readAps
-returns-4 c = simp (le-ltb _ _ (c .before .before .before .before .before .before .before .if1 .left), ← c .before .before .before .before .before .before .octet .ensures, sym (c .before .before .before .before .before .form .ensures) ∙ not-false _ (c .before .before .before .before .if2 .left), ← c .before .before .before .header-length .ensures .0, sym (c .before .before .is-secured .ensures) ∙ c .before .if3 .left) (c .plain-behind .ensures)
+returns-4 c =
+    let else3 : tie.Else3 = search in
+    let after-header-length : tie.After-header-length = search in
+    let else2 : tie.Else2 = search in
+    let after-octet : tie.After-octet = search in
+    let else1 : tie.Else1 = search in
+    simp (
+      le-ltb _ _ (else1 .if1 .left),
+      ← after-octet .octet .ensures,
+      sym (else2 .before .form .ensures) ∙ not-false _ (else2 .if2 .left),
+      ← after-header-length .header-length .ensures .0,
+      sym (else3 .before .is-secured .ensures) ∙ else3 .if3 .left,
+    )
+    (c .plain-behind .ensures)
 
 pub read-aps-spec : {M : Type 1} → statement M
 read-aps-spec =
@@ -58,9 +80,6 @@ read-aps-spec =
     returns-2
     header-length-requires
     is-secured-requires
-    octet-requires-2
-    identifier-requires
-    is-keyed-requires
     secured-behind-requires
     returns-3
     plain-behind-requires

@@ -17,14 +17,28 @@ form-requires c κs = search needs
 
 returns-2 : tie.Need-returns-2
 unfolding readApsPlain
-returns-2 c = simp (le-ltb _ _ (c .before .before .before .if1 .left), ← c .before .before .octet .ensures, sym (c .before .form .ensures) ∙ not-true _ (c .if2 .taken))
+returns-2 c =
+    simp (
+      le-ltb _ _ (c .before .before .before .if1 .left),
+      ← c .before .before .octet .ensures,
+      sym (c .before .form .ensures) ∙ not-true _ (c .if2 .taken),
+    )
 
 is-secured-requires : tie.Need-is-secured-requires
 is-secured-requires c κs = search needs
 
 returns-3 : tie.Need-returns-3
 unfolding readApsPlain
-returns-3 c = simp (le-ltb _ _ (c .before .before .before .before .before .if1 .left), ← c .before .before .before .before .octet .ensures, sym (c .before .before .before .form .ensures) ∙ not-false _ (c .before .before .if2 .left), sym (c .before .is-secured .ensures) ∙ c .if3 .taken)
+returns-3 c =
+    let else2 : tie.Else2 = search in
+    let after-octet : tie.After-octet = search in
+    let else1 : tie.Else1 = search in
+    simp (
+      le-ltb _ _ (else1 .if1 .left),
+      ← after-octet .octet .ensures,
+      sym (else2 .before .form .ensures) ∙ not-false _ (else2 .if2 .left),
+      sym (c .before .is-secured .ensures) ∙ c .if3 .taken,
+    )
 
 header-length-requires : tie.Need-header-length-requires
 header-length-requires c κs = search needs
@@ -34,7 +48,19 @@ plain-behind-requires c κs = search needs
 
 returns-4 : tie.Need-returns-4
 unfolding readApsPlain
-returns-4 c = simp (le-ltb _ _ (c .before .before .before .before .before .before .before .if1 .left), ← c .before .before .before .before .before .before .octet .ensures, sym (c .before .before .before .before .before .form .ensures) ∙ not-false _ (c .before .before .before .before .if2 .left), sym (c .before .before .before .is-secured .ensures) ∙ c .before .before .if3 .left, ← c .before .header-length .ensures .0) (c .plain-behind .ensures)
+returns-4 c =
+    let else3 : tie.Else3 = search in
+    let else2 : tie.Else2 = search in
+    let after-octet : tie.After-octet = search in
+    let else1 : tie.Else1 = search in
+    simp (
+      le-ltb _ _ (else1 .if1 .left),
+      ← after-octet .octet .ensures,
+      sym (else2 .before .form .ensures) ∙ not-false _ (else2 .if2 .left),
+      sym (else3 .before .is-secured .ensures) ∙ else3 .if3 .left,
+      ← c .before .header-length .ensures .0,
+    )
+    (c .plain-behind .ensures)
 
 pub read-aps-plain-spec : {M : Type 1} → statement M
 read-aps-plain-spec =

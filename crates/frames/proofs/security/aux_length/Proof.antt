@@ -21,8 +21,10 @@ add-result : tie.Need-add-result
 add-result c = omega (arith, c .before .before .extended .ensures, extended-most (c .before .before .before .args .control))
 
 returns : tie.Need-returns
-returns c = let h = aux-numbered _ (sym (c .before .identifier .ensures) ∙ c .if1 .taken) in
-    (omega (arith, h, c .before .before .extended .ensures), omega (arith, c .before .before .extended .ensures, extended-most (c .before .before .before .args .control)))
+returns c = let h = aux-numbered _ (sym (c .before .identifier .ensures) ∙ c .if1 .taken) in (
+  omega (arith, h, c .before .before .extended .ensures),
+  omega (arith, c .before .before .extended .ensures, extended-most (c .before .before .before .args .control)),
+)
 
 mul-result-2 : tie.Need-mul-result-2
 mul-result-2 c = omega (arith, c .before .before .extended .ensures, extended-most (c .before .before .before .args .control))
@@ -31,8 +33,10 @@ add-result-2 : tie.Need-add-result-2
 add-result-2 c = omega (arith, c .before .before .extended .ensures, extended-most (c .before .before .before .args .control))
 
 returns-2 : tie.Need-returns-2
-returns-2 c = let h = aux-unnumbered _ (λ e. c .if1 .left (c .before .identifier .ensures ∙ e)) in
-    (omega (arith, h, c .before .before .extended .ensures), omega (arith, c .before .before .extended .ensures, extended-most (c .before .before .before .args .control)))
+returns-2 c = let h = aux-unnumbered _ (λ e. c .if1 .left (c .before .identifier .ensures ∙ e)) in (
+  omega (arith, h, c .before .before .extended .ensures),
+  omega (arith, c .before .before .extended .ensures, extended-most (c .before .before .before .args .control)),
+)
 
 pub aux-length-spec : {M : Type 1} → statement M
 aux-length-spec =

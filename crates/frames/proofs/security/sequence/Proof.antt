@@ -30,7 +30,9 @@ octet-requires c κs = search needs
 
 returns : tie.Need-returns
 unfolding sequenceOf
-returns c = simp (← c .before .before .before .identifier .ensures, eq-eqb _ _ (c .before .before .if1 .taken), ← c .before .extended .ensures) (c .octet .ensures)
+returns c =
+    simp (← c .before .before .before .identifier .ensures, eq-eqb _ _ (c .before .before .if1 .taken), ← c .before .extended .ensures)
+    (c .octet .ensures)
 
 returns-2 : tie.Need-returns-2
 unfolding sequenceOf

@@ -9,11 +9,20 @@ unseal-requires c κs = search needs
 enum-known-n : tie.Need-enum-known-n
 enum-known-n c = search needs
 
-add-put-row : tie.Need-add-put-row
-add-put-row c = search needs
+mul-addrs : tie.Need-mul-addrs
+mul-addrs c = search needs
 
-put-row-requires : tie.Need-put-row-requires
-put-row-requires c κs = search needs
+slice-write-addrs : tie.Need-slice-write-addrs
+slice-write-addrs c = search needs
+
+add-floors : tie.Need-add-floors
+add-floors c = search needs
+
+mul-floors : tie.Need-mul-floors
+mul-floors c = search needs
+
+slice-write-floors : tie.Need-slice-write-floors
+slice-write-floors c = search needs
 
 enum-told : tie.Need-enum-told
 enum-told c = search needs
@@ -28,17 +37,24 @@ same-length-3 : tie.Need-same-length-3
 same-length-3 c = search needs
 
 returns : tie.Need-returns
-returns c = let x = c .before .before .before .before .before .before .before .before .before .before .before .before .before .before .before .before .before .before .before in
+returns c =
+    let x : tie.Start = search in
     let y = x .args in
-    admit-plain (y .key) (y .f .now) (y .s) (y .addrs .now) (y .floors .now) (y .out .now) (x .pre .0) (x .pre .1 .0) _ (c .before .before .before .before .before .before .before .before .before .n .given .0 .0) (y .r) _ _ _ (c .before .before .before .before .before .before .before .before .before .n .given .1) (c .before .before .before .before .before .before .before .before .before .before .before .before .before .unseal .ensures) (c .before .before .before .before .put-row .ensures .0) (c .before .before .before .before .put-row .ensures .1)
+    let after-n : tie.After-n = search in
+    let after-unseal : tie.After-unseal = search in
+    admit-plain (y .key) (y .f .now) (y .s) (y .addrs .now) (y .floors .now) (y .out .now) (x .pre .0 .0) (x .pre .0 .1 .0) _
+    (after-n .n .given .0 .0) (y .r) _ (after-n .n .given .1) (after-unseal .unseal .ensures)
 
 same-length-4 : tie.Need-same-length-4
 same-length-4 c = search needs
 
 returns-2 : tie.Need-returns-2
-returns-2 c = let x = c .before .before .before .before .before .before .before .before .before .before in
+returns-2 c =
+    let x : tie.Start = search in
     let y = x .args in
-    admit-forged (y .key) (y .f .now) (y .s) (y .addrs .now) (y .floors .now) (y .out .now) (x .pre .0) (x .pre .1 .0) _ _ _ (c .enum-told .given .1) (c .before .before .before .before .unseal .ensures)
+    let after-unseal : tie.After-unseal = search in
+    admit-forged (y .key) (y .f .now) (y .s) (y .addrs .now) (y .floors .now) (y .out .now) (x .pre .0 .0) (x .pre .0 .1 .0) _ _ _
+    (c .enum-told .given .1) (after-unseal .unseal .ensures)
 
 pub admit-spec : {M : Type 1} → statement M
 admit-spec =
@@ -46,8 +62,11 @@ admit-spec =
     (tie.spec
     unseal-requires
     enum-known-n
-    add-put-row
-    put-row-requires
+    mul-addrs
+    slice-write-addrs
+    add-floors
+    mul-floors
+    slice-write-floors
     enum-told
     same-length
     same-length-2

@@ -21,11 +21,18 @@ enum-told c = search needs
 
 returns : tie.Need-returns
 unfolding floorOf
-returns c = c .floor-at .ensures ∙ sym (ap (floorAt (c .before .before .before .before .before .before .before .args .floors .now)) (sym (c .before .before .before .before .find-row .ensures) ∙ c .before .before .r .given .1))
+returns c =
+    let after-r : tie.After-r = search in
+    let after-find-row : tie.After-find-row = search in
+    let start : tie.Start = search in
+    c .floor-at .ensures ∙ sym (ap (floorAt (start .args .floors .now)) (sym (after-find-row .find-row .ensures) ∙ after-r .r .given .1))
 
 returns-2 : tie.Need-returns-2
 unfolding floorOf
-returns-2 c = sym (ap (floorAt (c .before .before .before .before .before .args .floors .now)) (sym (c .before .before .find-row .ensures) ∙ c .enum-told .given .1))
+returns-2 c =
+    let after-find-row : tie.After-find-row = search in
+    let start : tie.Start = search in
+    sym (ap (floorAt (start .args .floors .now)) (sym (after-find-row .find-row .ensures) ∙ c .enum-told .given .1))
 
 pub floor-of-spec : {M : Type 1} → statement M
 floor-of-spec =

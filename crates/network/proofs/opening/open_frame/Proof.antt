@@ -6,8 +6,9 @@ use borrow.Author.Tests.{lt-ltb, le-ltb, lt-leb, le-leb, not-true, not-false}
 use Rattle.octets.proofs.Pasted.{pasted-onto}
 use Rattle.network.specs.Opening.{gave, openNetwork, openedRead}
 use Rattle.answers.specs.Numbers.{opened}
-use Rattle.answers.specs.declared.Guard.the-variants.{Clear}
+use Rattle.answers.specs.Numbers.{clear}
 use Rattle.frames.specs.Reading.{toldRead}
+use Rattle.board.proofs.Found.{lists-long}
 use Rattle.network.proofs.Admission.{read-sound}
 use Rattle.network.proofs.opening.open_frame.Statement.{statement}
 use Rattle.network.proofs.opening.open_frame.Tie as tie
@@ -27,7 +28,9 @@ same-length-2 c = search needs
 
 returns-2 : tie.Need-returns-2
 unfolding openNetwork
-returns-2 c = simp (le-leb _ _ (c .before .before .before .before .if1 .left), sym (c .before .lists-fit .ensures) ∙ not-true _ (c .if2 .taken))
+returns-2 c =
+    let else1 : tie.Else1 = search in
+    simp (le-leb _ _ (else1 .if1 .left), sym (c .before .lists-fit .ensures) ∙ not-true _ (c .if2 .taken))
 
 same-length-3 : tie.Need-same-length-3
 same-length-3 c = search needs
@@ -37,7 +40,14 @@ same-length-4 c = search needs
 
 returns-3 : tie.Need-returns-3
 unfolding openNetwork
-returns-3 c = simp (le-leb _ _ (c .before .before .before .before .before .if1 .left), sym (c .before .before .lists-fit .ensures) ∙ not-false _ (c .before .if2 .left), lt-ltb _ _ (c .if3 .taken))
+returns-3 c =
+    let else2 : tie.Else2 = search in
+    let else1 : tie.Else1 = search in
+    simp (
+      le-leb _ _ (else1 .if1 .left),
+      sym (else2 .before .lists-fit .ensures) ∙ not-false _ (else2 .if2 .left),
+      lt-ltb _ _ (c .if3 .taken),
+    )
 
 read-network-requires : tie.Need-read-network-requires
 read-network-requires c κs = search needs
@@ -55,7 +65,18 @@ enum-known-s : tie.Need-enum-known-s
 enum-known-s c = search needs
 
 open-keyed-requires : tie.Need-open-keyed-requires
-open-keyed-requires c κs = (read-sound (c .before .before .before .before .before .before .before .before .before .before .before .before .before .before .before .before .before .before .args .f .now) _ (sym (c .before .before .before .before .before .before .before .read-network .ensures) ∙ ap toldRead (c .before .before .before .before .before .s .given .1)) (c .before .before .before .before .before .before .before .before .if3 .left), c .before .before .before .before .before .before .before .before .before .before .before .before .before .if1 .left)
+open-keyed-requires c κs =
+    let after-s : tie.After-s = search in
+    let after-read-network : tie.After-read-network = search in
+    let else3 : tie.Else3 = search in
+    let else2 : tie.Else2 = search in
+    let else1 : tie.Else1 = search in
+    let start : tie.Start = search in
+    let long = lists-long 32 _ _ (sym (else2 .before .lists-fit .ensures) ∙ not-false _ (else2 .if2 .left)) in (
+      read-sound (start .args .f .now) _ (sym (after-read-network .read-network .ensures) ∙ ap toldRead (after-s .s .given .1))
+          (else3 .if3 .left),
+      (else1 .if1 .left, long .0 ∙ sym (long .1)),
+    )
 
 same-length-5 : tie.Need-same-length-5
 same-length-5 c = search needs
@@ -65,7 +86,17 @@ same-length-6 c = search needs
 
 returns-4 : tie.Need-returns-4
 unfolding openNetwork openedRead
-returns-4 c = simp (le-leb _ _ (c .before .before .before .before .before .before .before .before .before .if1 .left), sym (c .before .before .before .before .before .before .lists-fit .ensures) ∙ not-false _ (c .before .before .before .before .before .if2 .left), le-ltb _ _ (c .before .before .before .before .if3 .left), sym (c .before .before .before .read-network .ensures) ∙ ap toldRead (c .before .r .given .1))
+returns-4 c =
+    let after-read-network : tie.After-read-network = search in
+    let else3 : tie.Else3 = search in
+    let else2 : tie.Else2 = search in
+    let else1 : tie.Else1 = search in
+    simp (
+      le-leb _ _ (else1 .if1 .left),
+      sym (else2 .before .lists-fit .ensures) ∙ not-false _ (else2 .if2 .left),
+      le-ltb _ _ (else3 .if3 .left),
+      sym (after-read-network .read-network .ensures) ∙ ap toldRead (c .before .r .given .1),
+    )
 
 same-length-7 : tie.Need-same-length-7
 same-length-7 c = search needs
@@ -78,9 +109,23 @@ same-length-9 c = search needs
 
 returns-5 : tie.Need-returns-5
 unfolding openNetwork openedRead
-returns-5 c = let y = c .before .before .before .before .before .before .before .before .before .before .before .before .before .before .before .before .before .args in
-    simp (le-leb _ _ (c .before .before .before .before .before .before .before .before .before .before .before .before .if1 .left), sym (c .before .before .before .before .before .before .before .before .before .lists-fit .ensures) ∙ not-false _ (c .before .before .before .before .before .before .before .before .if2 .left), le-ltb _ _ (c .before .before .before .before .before .before .before .if3 .left), sym (c .before .before .before .before .before .before .read-network .ensures) ∙ ap toldRead (c .before .before .before .before .enum-told .given .1))
-    (ap (gave (opened (length (y .f .now)) 0 Clear) (y .addrs .now) (y .floors .now)) (pasted-onto _ (y .out .now) (y .f .now) (c .before .before .paste-at .ensures) (omega (arith, c .before .before .before .before .before .before .before .before .before .before .before .before .if1 .left, c .before .before .before .before .before .before .before .if3 .left))))
+returns-5 c =
+    let start : tie.Start = search in
+    let y = start .args in
+    let after-paste-at : tie.After-paste-at = search in
+    let after-enum-told : tie.After-enum-told = search in
+    let after-read-network : tie.After-read-network = search in
+    let else3 : tie.Else3 = search in
+    let else2 : tie.Else2 = search in
+    let else1 : tie.Else1 = search in
+    simp (
+      le-leb _ _ (else1 .if1 .left),
+      sym (else2 .before .lists-fit .ensures) ∙ not-false _ (else2 .if2 .left),
+      le-ltb _ _ (else3 .if3 .left),
+      sym (after-read-network .read-network .ensures) ∙ ap toldRead (after-enum-told .enum-told .given .1),
+    )
+    (ap (gave (opened (length (y .f .now)) 0 clear) (y .addrs .now) (y .floors .now))
+    (pasted-onto _ (y .out .now) (y .f .now) (after-paste-at .paste-at .ensures) (omega (arith, else1 .if1 .left, else3 .if3 .left))))
 
 same-length-10 : tie.Need-same-length-10
 same-length-10 c = search needs
@@ -93,7 +138,20 @@ same-length-12 c = search needs
 
 returns-6 : tie.Need-returns-6
 unfolding openNetwork openedRead
-returns-6 c = simp (le-leb _ _ (c .before .before .before .before .before .before .before .before .before .before .before .before .before .before .before .before .before .before .before .before .if1 .left), sym (c .before .before .before .before .before .before .before .before .before .before .before .before .before .before .before .before .before .lists-fit .ensures) ∙ not-false _ (c .before .before .before .before .before .before .before .before .before .before .before .before .before .before .before .before .if2 .left), le-ltb _ _ (c .before .before .before .before .before .before .before .before .before .before .before .before .before .before .before .if3 .left), sym (c .before .before .before .before .before .before .before .before .before .before .before .before .before .before .read-network .ensures) ∙ ap toldRead (c .before .before .before .before .before .before .before .before .before .before .before .before .s .given .1)) (c .before .before .before .before .before .before .open-keyed .ensures)
+returns-6 c =
+    let after-open-keyed : tie.After-open-keyed = search in
+    let after-s : tie.After-s = search in
+    let after-read-network : tie.After-read-network = search in
+    let else3 : tie.Else3 = search in
+    let else2 : tie.Else2 = search in
+    let else1 : tie.Else1 = search in
+    simp (
+      le-leb _ _ (else1 .if1 .left),
+      sym (else2 .before .lists-fit .ensures) ∙ not-false _ (else2 .if2 .left),
+      le-ltb _ _ (else3 .if3 .left),
+      sym (after-read-network .read-network .ensures) ∙ ap toldRead (after-s .s .given .1),
+    )
+    (after-open-keyed .open-keyed .ensures)
 
 pub open-frame-spec : {M : Type 1} → statement M
 open-frame-spec =

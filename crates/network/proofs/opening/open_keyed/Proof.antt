@@ -19,7 +19,12 @@ array-copy-out-slot : tie.Need-array-copy-out-slot
 array-copy-out-slot c = slot-place _ _ _ (sym (c .before .before .before .slot-of .ensures) ∙ c .before .i .given .1)
 
 open-under-requires : tie.Need-open-under-requires
-open-under-requires c κs = (c .before .before .before .before .before .before .before .before .before .before .before .before .before .pre .0, (c .before .before .before .before .before .before .before .before .before .before .before .before .before .pre .1, slot-place _ _ _ (sym (c .before .before .before .before .before .before .before .before .slot-of .ensures) ∙ c .before .before .before .before .before .before .i .given .1)))
+open-under-requires c κs =
+    let after-i : tie.After-i = search in
+    let after-slot-of : tie.After-slot-of = search in
+    let start : tie.Start = search in
+    let place = slot-place _ _ _ (sym (after-slot-of .slot-of .ensures) ∙ after-i .i .given .1) in
+    ((start .pre .0, (start .pre .1 .0, place)), start .pre .1 .1)
 
 enum-told : tie.Need-enum-told
 enum-told c = search needs
@@ -35,7 +40,11 @@ same-length-3 c = search needs
 
 returns : tie.Need-returns
 unfolding openedKeyed
-returns c = simp (sym (c .before .before .before .before .before .before .before .before .before .before .before .before .before .before .before .slot-of .ensures) ∙ c .before .before .before .before .before .before .before .before .before .before .before .before .before .i .given .1) (c .before .before .before .before .before .before .open-under .ensures)
+returns c =
+    let after-open-under : tie.After-open-under = search in
+    let after-i : tie.After-i = search in
+    let after-slot-of : tie.After-slot-of = search in
+    simp (sym (after-slot-of .slot-of .ensures) ∙ after-i .i .given .1) (after-open-under .open-under .ensures)
 
 returns-2 : tie.Need-returns-2
 unfolding openedKeyed

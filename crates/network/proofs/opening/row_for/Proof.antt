@@ -24,11 +24,18 @@ find-row-requires-2 c κs = search needs
 
 returns : tie.Need-returns
 unfolding rowFor
-returns c = sym (ap (orFree 32 (c .before .before .before .before .before .args .addrs .now) (c .before .before .before .before .before .args .i)) (sym (c .before .before .before .find-row .ensures) ∙ c .before .r .given .1))
+returns c =
+    let after-find-row : tie.After-find-row = search in
+    let start : tie.Start = search in
+    sym (ap (orFree 32 (start .args .addrs .now) (start .args .i)) (sym (after-find-row .find-row .ensures) ∙ c .before .r .given .1))
 
 returns-2 : tie.Need-returns-2
 unfolding rowFor
-returns-2 c = c .find-row2 .ensures ∙ sym (ap (orFree 32 (c .before .before .before .before .before .args .addrs .now) (c .before .before .before .before .before .args .i)) (sym (c .before .before .before .find-row .ensures) ∙ c .before .enum-told .given .1))
+returns-2 c =
+    let after-find-row : tie.After-find-row = search in
+    let start : tie.Start = search in
+    c .find-row2 .ensures ∙ sym
+    (ap (orFree 32 (start .args .addrs .now) (start .args .i)) (sym (after-find-row .find-row .ensures) ∙ c .before .enum-told .given .1))
 
 pub row-for-spec : {M : Type 1} → statement M
 row-for-spec =

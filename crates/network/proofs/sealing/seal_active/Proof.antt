@@ -20,7 +20,14 @@ array-copy-out-s c = search needs
 
 returns-2 : tie.Need-returns-2
 unfolding sealedBy
-returns-2 c = λ b es en eo. simp (le-leb _ _ (c .before .before .before .if1 .left), ap (λ (x : List Slot). slotAt x (c .before .before .before .before .before .before .args .i) .present) es ∙ not-true (slotAt (c .before .before .before .before .before .before .args .t1) (c .before .before .before .before .before .before .args .i) .present) (c .if2 .taken))
+returns-2 c =
+    let else1 : tie.Else1 = search in
+    let start : tie.Start = search in
+    λ b es en eo. simp (
+      le-leb _ _ (else1 .if1 .left),
+      ap (λ (x : List Slot). slotAt x (start .args .i) .present) es ∙ not-true (slotAt (start .args .t1) (start .args .i) .present)
+          (c .if2 .taken),
+    )
 
 seal-under-requires : tie.Need-seal-under-requires
 seal-under-requires c κs = search needs
@@ -30,9 +37,18 @@ same-length c = search needs
 
 returns-3 : tie.Need-returns-3
 unfolding sealedBy
-returns-3 c = λ b es en eo. let y = c .before .before .before .before .before .before .before .before .before .before .args in
-    simp (le-leb _ _ (c .before .before .before .before .before .before .before .if1 .left), ap (λ (x : List Slot). slotAt x (y .i) .present) es ∙ not-false (slotAt (y .t1) (y .i) .present) (c .before .before .before .before .if2 .left))
-    (c .before .before .seal-under .ensures b en eo ∙ ap (λ (x : List Slot). sealedUnder b (y .f .now) (y .out .now) (y .h) (slotAt x (y .i))) (sym es))
+returns-3 c =
+    let after-seal-under : tie.After-seal-under = search in
+    let else2 : tie.Else2 = search in
+    let else1 : tie.Else1 = search in
+    let start : tie.Start = search in
+    λ b es en eo. let y = start .args in
+    simp (
+      le-leb _ _ (else1 .if1 .left),
+      ap (λ (x : List Slot). slotAt x (y .i) .present) es ∙ not-false (slotAt (y .t1) (y .i) .present) (else2 .if2 .left),
+    )
+    (after-seal-under .seal-under .ensures b en eo ∙ ap
+    (λ (x : List Slot). sealedUnder b (y .f .now) (y .out .now) (y .h) (slotAt x (y .i))) (sym es))
 
 pub seal-active-spec : {M : Type 1} → statement M
 seal-active-spec =

@@ -20,7 +20,10 @@ same-length : tie.Need-same-length
 same-length c = search needs
 
 returns-2 : tie.Need-returns-2
-returns-2 c = λ b es en eo. simp (c .before .before .before .before .before .active .given .1) (c .before .before .seal-active .ensures b es en eo)
+returns-2 c =
+    let after-seal-active : tie.After-seal-active = search in
+    let after-active : tie.After-active = search in
+    λ b es en eo. simp (after-active .active .given .1) (after-seal-active .seal-active .ensures b es en eo)
 
 pub seal-by-spec : {M : Type 1} → statement M
 seal-by-spec =

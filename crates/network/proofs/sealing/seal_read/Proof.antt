@@ -28,24 +28,60 @@ enum-known-h : tie.Need-enum-known-h
 enum-known-h c = search needs
 
 seal-by-requires : tie.Need-seal-by-requires
-seal-by-requires c κs = (plain-bounds (c .before .before .before .before .before .before .before .before .before .args .f .now) _ (sym (c .before .before .before .before .read-network-plain .ensures) ∙ ap toldRead (c .before .before .h .given .1)), (c .before .before .before .before .before .if2 .left, c .before .before .before .before .before .before .if1 .left))
+seal-by-requires c κs =
+    let after-h : tie.After-h = search in
+    let after-read-network-plain : tie.After-read-network-plain = search in
+    let else2 : tie.Else2 = search in
+    let else1 : tie.Else1 = search in
+    let start : tie.Start = search in (
+      plain-bounds (start .args .f .now) _
+          (sym (after-read-network-plain .read-network-plain .ensures) ∙ ap toldRead (after-h .h .given .1)),
+      (else2 .if2 .left, else1 .if1 .left),
+    )
 
 returns-3 : tie.Need-returns-3
 unfolding sealNetwork sealedRead
-returns-3 c = λ b es ea en eo. simp (le-ltb _ _ (c .before .before .before .before .before .if1 .left), le-ltb _ _ (c .before .before .before .before .if2 .left), sym (c .before .before .before .read-network-plain .ensures) ∙ ap toldRead (c .before .r .given .1))
+returns-3 c =
+    let after-read-network-plain : tie.After-read-network-plain = search in
+    let else2 : tie.Else2 = search in
+    let else1 : tie.Else1 = search in
+    λ b es ea en eo. simp (
+      le-ltb _ _ (else1 .if1 .left),
+      le-ltb _ _ (else2 .if2 .left),
+      sym (after-read-network-plain .read-network-plain .ensures) ∙ ap toldRead (c .before .r .given .1),
+    )
 
 returns-4 : tie.Need-returns-4
 unfolding sealNetwork sealedRead
-returns-4 c = λ b es ea en eo. simp (le-ltb _ _ (c .before .before .before .before .if1 .left), le-ltb _ _ (c .before .before .before .if2 .left), sym (c .before .before .read-network-plain .ensures) ∙ ap toldRead (c .enum-told .given .1))
+returns-4 c =
+    let after-read-network-plain : tie.After-read-network-plain = search in
+    let else2 : tie.Else2 = search in
+    let else1 : tie.Else1 = search in
+    λ b es ea en eo. simp (
+      le-ltb _ _ (else1 .if1 .left),
+      le-ltb _ _ (else2 .if2 .left),
+      sym (after-read-network-plain .read-network-plain .ensures) ∙ ap toldRead (c .enum-told .given .1),
+    )
 
 same-length : tie.Need-same-length
 same-length c = search needs
 
 returns-5 : tie.Need-returns-5
 unfolding sealNetwork sealedRead
-returns-5 c = λ b es ea en eo. let y = c .before .before .before .before .before .before .before .before .before .before .before .before .args in
-    simp (le-ltb _ _ (c .before .before .before .before .before .before .before .before .before .if1 .left), le-ltb _ _ (c .before .before .before .before .before .before .before .before .if2 .left), sym (c .before .before .before .before .before .before .before .read-network-plain .ensures) ∙ ap toldRead (c .before .before .before .before .before .h .given .1))
-    (c .before .before .seal-by .ensures b es en eo ∙ ap (sealedBy b (y .f .now) (y .out .now) (c .before .before .before .before .before .h .given .0 .0)) (sym ea))
+returns-5 c =
+    let after-seal-by : tie.After-seal-by = search in
+    let after-h : tie.After-h = search in
+    let after-read-network-plain : tie.After-read-network-plain = search in
+    let else2 : tie.Else2 = search in
+    let else1 : tie.Else1 = search in
+    let start : tie.Start = search in
+    λ b es ea en eo. let y = start .args in
+    simp (
+      le-ltb _ _ (else1 .if1 .left),
+      le-ltb _ _ (else2 .if2 .left),
+      sym (after-read-network-plain .read-network-plain .ensures) ∙ ap toldRead (after-h .h .given .1),
+    )
+    (after-seal-by .seal-by .ensures b es en eo ∙ ap (sealedBy b (y .f .now) (y .out .now) (after-h .h .given .0 .0)) (sym ea))
 
 pub seal-read-spec : {M : Type 1} → statement M
 seal-read-spec =

@@ -11,7 +11,10 @@ sub-if2 : tie.Need-sub-if2
 sub-if2 c = search needs
 
 returns-2 : tie.Need-returns-2
-returns-2 c = let x = c .before .before .before .before .args in no-room (x .out .now) (x .at) (x .src .now) (omega arith)
+returns-2 c =
+    let start : tie.Start = search in
+    let x = start .args in
+    no-room (x .out .now) (x .at) (x .src .now) (omega arith)
 
 paste-at-requires : tie.Need-paste-at-requires
 paste-at-requires c κs = search needs
@@ -23,8 +26,11 @@ same-length : tie.Need-same-length
 same-length c = search needs
 
 returns-3 : tie.Need-returns-3
-returns-3 c = let x = c .before .before .before .before .before .before .before .before .args in
-    (c .before .before .paste-at .ensures, ahead-fits (x .out .now) (x .at) (x .src .now) (omega arith))
+returns-3 c =
+    let start : tie.Start = search in
+    let x = start .args in
+    let after-paste-at : tie.After-paste-at = search in
+    (after-paste-at .paste-at .ensures, ahead-fits (x .out .now) (x .at) (x .src .now) (omega arith))
 
 pub put-spec : {M : Type 1} → statement M
 put-spec =

@@ -19,7 +19,9 @@ zero-led-requires c κs = search needs
 
 returns-2 : tie.Need-returns-2
 unfolding isDecimal
-returns-2 c = let some = lt-ltb 0 (length (c .before .before .before .before .args .s .now)) (omega arith) in
+returns-2 c =
+    let start : tie.Start = search in
+    let some = lt-ltb 0 (length (start .args .s .now)) (omega arith) in
     simp (some, sym (c .before .zero-led .ensures) ∙ c .if2 .taken)
 
 all-digits-requires : tie.Need-all-digits-requires
@@ -27,8 +29,11 @@ all-digits-requires c κs = search needs
 
 returns-3 : tie.Need-returns-3
 unfolding isDecimal
-returns-3 c = let some = lt-ltb 0 (length (c .before .before .before .before .before .args .s .now)) (omega arith) in
-    simp (some, sym (c .before .before .zero-led .ensures) ∙ c .before .if2 .left) (c .all-digits .ensures)
+returns-3 c =
+    let start : tie.Start = search in
+    let some = lt-ltb 0 (length (start .args .s .now)) (omega arith) in
+    let else2 : tie.Else2 = search in
+    simp (some, sym (else2 .before .zero-led .ensures) ∙ else2 .if2 .left) (c .all-digits .ensures)
 
 pub is-decimal-spec : {M : Type 1} → statement M
 is-decimal-spec =

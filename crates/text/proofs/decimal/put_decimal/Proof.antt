@@ -21,10 +21,14 @@ same-length : tie.Need-same-length
 same-length c = search needs
 
 returns : tie.Need-returns
-returns c = let n = c .before .before .before .before .before .before .before .before .args .n in
-    let k = c .before .before .before .before .before .decimal .result in
-    let w = c .before .before .before .before .before .decimal .ensures in
-    rw (w .1 .1 ∙ decimal-is n k (omega arith) (w .1 .0)) at (c .before .before .put .ensures)
+returns c =
+    let start : tie.Start = search in
+    let n = start .args .n in
+    let after-decimal : tie.After-decimal = search in
+    let k = after-decimal .decimal .result in
+    let w = after-decimal .decimal .ensures in
+    let after-put : tie.After-put = search in
+    rw (w .1 .1 ∙ decimal-is n k (omega arith) (w .1 .0)) at (after-put .put .ensures)
 
 pub put-decimal-spec : {M : Type 1} → statement M
 put-decimal-spec =

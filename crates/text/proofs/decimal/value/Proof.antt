@@ -36,8 +36,11 @@ add-n : tie.Need-add-n Inv-loop μ-loop
 add-n c = search needs
 
 returns : tie.Need-returns Inv-loop μ-loop
-returns c = let x = c .before .before .before .before .before .before .args in
-    let l = c .before .before .before .before .loop in
+returns c =
+    let start : tie.Start Inv-loop μ-loop = search in
+    let x = start .args in
+    let at-loop : tie.At-loop Inv-loop μ-loop = search in
+    let l = at-loop .loop in
     let more = spelt-more 10 (x .s .now) (l .i) (l .n) (omega arith) in
     let low = spelt-low (drop (l .i + 1) (x .s .now)) (l .n * 10 + digitOf (getD (x .s .now) (l .i) 0)) in
     sym (too-many (x .most) (spelt 10 0 (x .s .now)) (omega (arith, more, low)))
@@ -49,8 +52,11 @@ loop-less : tie.Need-loop-less Inv-loop μ-loop
 loop-less c = search needs
 
 loop-again : tie.Need-loop-again Inv-loop μ-loop
-loop-again c = let x = c .before .before .before .before .before .before .args in
-    let l = c .before .before .before .before .loop in
+loop-again c =
+    let start : tie.Start Inv-loop μ-loop = search in
+    let x = start .args in
+    let at-loop : tie.At-loop Inv-loop μ-loop = search in
+    let l = at-loop .loop in
     let more = spelt-more 10 (x .s .now) (l .i) (l .n) (omega arith) in (
       search needs,
       search needs,

@@ -33,8 +33,11 @@ loop-again c = let l = c .before .before .before .loop in
     (search needs, l .inv .1 ∙ behind-more _ _ (l .left) (c .before .before .loop-test .taken) (c .past .ensures .1))
 
 returns : tie.Need-returns Inv-loop μ-loop
-returns c = let l = c .before .before .loop in
-    let x = c .before .before .before .before .args in
+returns c =
+    let at-loop : tie.At-loop Inv-loop μ-loop = search in
+    let l = at-loop .loop in
+    let start : tie.Start Inv-loop μ-loop = search in
+    let x = start .args in
     let h : length (x .line .now) ≤ l .at = ltb-false _ _ (c .if1 .left) in
     let d : drop (l .at) (x .line .now) ≡ [] = drop-of-length-le (x .line .now) h in
     (search needs, d ∙ sym (l .inv .1 ∙ ap (behind (l .left)) d ∙ behind-none (l .left)))

@@ -32,8 +32,11 @@ loop-less : tie.Need-loop-less Inv-loop μ-loop
 loop-less c = search needs
 
 loop-again : tie.Need-loop-again Inv-loop μ-loop
-loop-again c = let x = c .before .before .before .before .args in
-    let l = c .before .before .before .loop in
+loop-again c =
+    let start : tie.Start Inv-loop μ-loop = search in
+    let x = start .args in
+    let at-loop : tie.At-loop Inv-loop μ-loop = search in
+    let l = at-loop .loop in
     ⊎-elim (λ w. omega (arith, tabs-tab (x .line .now) (l .i) (omega arith) (w .0 .taken)))
     (λ w. omega (arith, tabs-more (x .line .now) (l .i) (omega arith) (w .0 .left))) (c .if1 .came)
 

@@ -1,5 +1,7 @@
+use mathlib.Core.Path.{refl}
 use borrow.Author.Needs.{needs}
-use Rattle.text.proofs.Parted.{field-is}
+use Rattle.octets.proofs.Parts.{same-part}
+use Rattle.text.proofs.Parted.{field-from, field-is}
 use Rattle.text.proofs.fields.field.Statement.{statement}
 use Rattle.text.proofs.fields.field.Tie as tie
 
@@ -19,10 +21,14 @@ part-result-end : tie.Need-part-result-end
 part-result-end c = search needs
 
 returns : tie.Need-returns
-returns c = let x = c .before .before .before .before .args in
-    let from = c .before .before .behind in
+returns c =
+    let start : tie.Start = search in
+    let x = start .args in
+    let after-behind : tie.After-behind = search in
+    let from = after-behind .behind in
     let end = c .before .tab-from in
-    field-is (x .line .now) (x .k) (from .result) (end .result) (from .ensures .1) (end .ensures .1)
+    same-part refl (rw (← field-from (x .line .now) (x .k) (from .result) (from .ensures .0) (from .ensures .1)) (search needs))
+    (field-is (x .line .now) (x .k) (from .result) (end .result) (from .ensures .1) (end .ensures .1))
 
 pub field-spec : {M : Type 1} → statement M
 field-spec =

@@ -3,6 +3,7 @@ use Prim.Native.Nat.{_≤_, _-_}
 use native.Mathlib.Omega.{arith}
 use borrow.Author.Needs.{needs}
 use Rattle.octets.specs.Lists.{eqList}
+use Rattle.octets.specs.Parts.{Part}
 use Rattle.text.specs.Fields.{fields, which, whichOf}
 use Rattle.text.proofs.Parted.{which-is, which-more, which-none}
 use Rattle.text.proofs.fields.which.Statement.{statement}
@@ -30,12 +31,18 @@ same-requires : tie.Need-same-requires Inv-loop μ-loop
 same-requires c κs = search needs
 
 returns : tie.Need-returns Inv-loop μ-loop
-returns c = let x = c .before .before .before .before .before .before .before .before .args in
-    let l = c .before .before .before .before .loop in
-    let n = c .before .before .before .before .before .count .result in
+returns c =
+    let start : tie.Start Inv-loop μ-loop = search in
+    let x = start .args in
+    let at-loop : tie.At-loop Inv-loop μ-loop = search in
+    let l = at-loop .loop in
+    let after-count : tie.After-count Inv-loop μ-loop = search in
+    let n = after-count .count .result in
     let is = sym (c .before .same .ensures) ∙ c .if1 .taken in
-    let e = ap (λ f. eqList f (x .w .now)) (sym (c .before .before .field .ensures)) ∙ is in
-    sym (l .inv .2 ∙ which-is (x .words .now) (x .w .now) (l .k) n (c .before .before .before .loop-test .taken) e)
+    let after-field : tie.After-field Inv-loop μ-loop = search in
+    let e = ap (λ f. eqList f (x .w .now)) (sym (ap (λ (p : Part). p .octets) (after-field .field .ensures))) ∙ is in
+    let in-loop : tie.In-loop Inv-loop μ-loop = search in
+    sym (l .inv .2 ∙ which-is (x .words .now) (x .w .now) (l .k) n (in-loop .loop-test .taken) e)
 
 add-k : tie.Need-add-k Inv-loop μ-loop
 add-k c = search needs
@@ -44,19 +51,28 @@ loop-less : tie.Need-loop-less Inv-loop μ-loop
 loop-less c = search needs
 
 loop-again : tie.Need-loop-again Inv-loop μ-loop
-loop-again c = let x = c .before .before .before .before .before .before .before .before .args in
-    let l = c .before .before .before .before .loop in
-    let n = c .before .before .before .before .before .count .result in
+loop-again c =
+    let start : tie.Start Inv-loop μ-loop = search in
+    let x = start .args in
+    let at-loop : tie.At-loop Inv-loop μ-loop = search in
+    let l = at-loop .loop in
+    let after-count : tie.After-count Inv-loop μ-loop = search in
+    let n = after-count .count .result in
     let not = sym (c .before .same .ensures) ∙ c .if1 .left in
-    let e = ap (λ f. eqList f (x .w .now)) (sym (c .before .before .field .ensures)) ∙ not in
-    let more = which-more (x .words .now) (x .w .now) (l .k) n (c .before .before .before .loop-test .taken) e in
+    let after-field : tie.After-field Inv-loop μ-loop = search in
+    let e = ap (λ f. eqList f (x .w .now)) (sym (ap (λ (p : Part). p .octets) (after-field .field .ensures))) ∙ not in
+    let in-loop : tie.In-loop Inv-loop μ-loop = search in
+    let more = which-more (x .words .now) (x .w .now) (l .k) n (in-loop .loop-test .taken) e in
     (search needs, search needs, l .inv .2 ∙ more)
 
 returns-2 : tie.Need-returns-2 Inv-loop μ-loop
-returns-2 c = let x = c .before .before .before .before .before .args in
+returns-2 c =
+    let start : tie.Start Inv-loop μ-loop = search in
+    let x = start .args in
     let l = c .before .loop in
-    let e : l .k ≡ c .before .before .count .result = omega arith in
-    sym (l .inv .2 ∙ which-none (x .words .now) (x .w .now) (l .k) (c .before .before .count .result) (omega arith) ∙ e)
+    let after-count : tie.After-count Inv-loop μ-loop = search in
+    let e : l .k ≡ after-count .count .result = omega arith in
+    sym (l .inv .2 ∙ which-none (x .words .now) (x .w .now) (l .k) (after-count .count .result) (omega arith) ∙ e)
 
 pub which-spec : {M : Type 1} → statement M
 which-spec =

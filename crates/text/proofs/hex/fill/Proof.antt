@@ -23,7 +23,9 @@ loop-holds : tie.Need-loop-holds Inv-loop μ-loop
 loop-holds c = (search needs, search needs, refl, refl)
 
 octet-at-requires : tie.Need-octet-at-requires Inv-loop μ-loop
-octet-at-requires c κs = (omega arith, c .before .before .before .before .pre .1)
+octet-at-requires c κs =
+    let start : tie.Start Inv-loop μ-loop = search in
+    (omega arith, start .pre .1)
 
 slice-write-out : tie.Need-slice-write-out Inv-loop μ-loop
 slice-write-out c = search needs
@@ -35,8 +37,11 @@ loop-less : tie.Need-loop-less Inv-loop μ-loop
 loop-less c = search needs
 
 loop-again : tie.Need-loop-again Inv-loop μ-loop
-loop-again c = let x = c .before .before .before .before .before .args in
-    let l = c .before .before .loop in
+loop-again c =
+    let start : tie.Start Inv-loop μ-loop = search in
+    let x = start .args in
+    let at-loop : tie.At-loop Inv-loop μ-loop = search in
+    let l = at-loop .loop in
     let p = octetsOf (x .s .now) in
     let long = length-octets (x .s .now) in (
       search needs,
@@ -50,10 +55,12 @@ same-length : tie.Need-same-length Inv-loop μ-loop
 same-length c = search needs
 
 returns : tie.Need-returns Inv-loop μ-loop
-returns c = let l = c .before .loop in
-    let o = c .before .before .before .before .args .out .now in
-    let p = octetsOf (c .before .before .before .before .args .s .now) in
-    let n : l .i ≡ length p = omega (arith, length-octets (c .before .before .before .before .args .s .now)) in
+returns c =
+    let l = c .before .loop in
+    let start : tie.Start Inv-loop μ-loop = search in
+    let o = start .args .out .now in
+    let p = octetsOf (start .args .s .now) in
+    let n : l .i ≡ length p = omega (arith, length-octets (start .args .s .now)) in
     l .inv .3 ∙ ap (λ k. take k p ++ drop k o) n ∙ ap (λ f. f ++ drop (length p) o) (take-length p)
 
 pub fill-spec : {M : Type 1} → statement M

@@ -13,14 +13,18 @@ glyph-requires : tie.Need-glyph-requires
 glyph-requires c κs = omega (arith, c .before .shared-slice-known2 .given (c .before .before .before .args .j / 2))
 
 returns : tie.Need-returns
-returns c = let x = c .before .before .before .before .args in
+returns c =
+    let start : tie.Start = search in
+    let x = start .args in
     c .glyph .ensures ∙ sym (hex-even (x .src .now) (x .j) (omega arith) (c .before .if1 .taken))
 
 glyph-requires-2 : tie.Need-glyph-requires-2
 glyph-requires-2 c κs = search needs
 
 returns-2 : tie.Need-returns-2
-returns-2 c = let x = c .before .before .before .before .args in
+returns-2 c =
+    let start : tie.Start = search in
+    let x = start .args in
     c .glyph2 .ensures ∙ sym (hex-odd (x .src .now) (x .j) (omega arith) (c .before .if1 .left))
 
 pub hex-at-spec : {M : Type 1} → statement M

@@ -29,19 +29,26 @@ digit-requires-2 : tie.Need-digit-requires-2
 digit-requires-2 c κs = search needs
 
 mul-result : tie.Need-mul-result
-mul-result c = let x = c .before .before .before .before .before .args in
-    omega (arith, digit-at 16 (x .s .now) (x .i * 2) (c .before .before .before .before .before .pre .1) (omega arith))
+mul-result c =
+    let start : tie.Start = search in
+    let x = start .args in
+    omega (arith, digit-at 16 (x .s .now) (x .i * 2) (start .pre .1) (omega arith))
 
 add-result : tie.Need-add-result
-add-result c = let x = c .before .before .before .before .before .args in
-    let high = digit-at 16 (x .s .now) (x .i * 2) (c .before .before .before .before .before .pre .1) (omega arith) in
-    let low = digit-at 16 (x .s .now) (x .i * 2 + 1) (c .before .before .before .before .before .pre .1) (omega arith) in
+add-result c =
+    let start : tie.Start = search in
+    let x = start .args in
+    let high = digit-at 16 (x .s .now) (x .i * 2) (start .pre .1) (omega arith) in
+    let low = digit-at 16 (x .s .now) (x .i * 2 + 1) (start .pre .1) (omega arith) in
     omega (arith, high, low)
 
 returns : tie.Need-returns
-returns c = let x = c .before .before .before .before .before .args in
-    ap₂ (λ (a b : ℕ). a * 16 + b) (c .before .before .digit .ensures .0) (c .digit2 .ensures .0)
-    ∙ sym (octet-at (x .s .now) (x .i) (c .before .before .before .before .before .pre .0))
+returns c =
+    let start : tie.Start = search in
+    let x = start .args in
+    let after-digit : tie.After-digit = search in
+    ap₂ (λ (a b : ℕ). a * 16 + b) (after-digit .digit .ensures .0) (c .digit2 .ensures .0)
+    ∙ sym (octet-at (x .s .now) (x .i) (start .pre .0))
 
 pub octet-at-spec : {M : Type 1} → statement M
 octet-at-spec =

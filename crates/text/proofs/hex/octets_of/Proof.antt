@@ -29,8 +29,11 @@ same-length c = search needs
 
 returns-4 : tie.Need-returns-4
 unfolding unhexed isHex
-returns-4 c = let told = c .before .before .before .before .before .all-digits .ensures in
-    search (tests, sym told ∙ not-false _ (c .before .before .before .before .if3 .left), c .before .before .fill .ensures)
+returns-4 c =
+    let else3 : tie.Else3 = search in
+    let told = else3 .before .all-digits .ensures in
+    let after-fill : tie.After-fill = search in
+    search (tests, sym told ∙ not-false _ (else3 .if3 .left), after-fill .fill .ensures)
 
 pub octets-of-spec : {M : Type 1} → statement M
 octets-of-spec =

@@ -24,10 +24,14 @@ same-length c = search needs
 
 returns : tie.Need-returns
 unfolding address
-returns c = let x = c .before .before .before .before .before .before .before .before .args in
-    let w = c .before .before .before .before .before .hex .ensures in
-    let all = sixteen (x .a) (c .before .before .before .before .before .hex .result) (omega arith) (w .1 .0) in
-    rw (w .1 .1 ∙ ap (λ k. digits 16 k (x .a)) all) at (c .before .before .put .ensures)
+returns c =
+    let start : tie.Start = search in
+    let x = start .args in
+    let after-hex : tie.After-hex = search in
+    let w = after-hex .hex .ensures in
+    let all = sixteen (x .a) (after-hex .hex .result) (omega arith) (w .1 .0) in
+    let after-put : tie.After-put = search in
+    rw (w .1 .1 ∙ ap (λ k. digits 16 k (x .a)) all) at (after-put .put .ensures)
 
 pub put-address-spec : {M : Type 1} → statement M
 put-address-spec =

@@ -30,11 +30,15 @@ sub-if2 : tie.Need-sub-if2 Inv-loop μ-loop
 sub-if2 c = search needs
 
 returns-2 : tie.Need-returns-2 Inv-loop μ-loop
-returns-2 c = let x = c .before .before .before .before .args in
+returns-2 c =
+    let start : tie.Start Inv-loop μ-loop = search in
+    let x = start .args in
     no-room (x .out .now) (x .at) (hexOf (x .src .now)) (omega (arith, length-hex (x .src .now)))
 
 loop-holds : tie.Need-loop-holds Inv-loop μ-loop
-loop-holds c = let x = c .before .before .before .before .args in
+loop-holds c =
+    let start : tie.Start Inv-loop μ-loop = search in
+    let x = start .args in
     (search needs, search needs, omega arith, refl, paste-zero (x .out .now) (x .at) (hexOf (x .src .now)))
 
 hex-at-requires : tie.Need-hex-at-requires Inv-loop μ-loop
@@ -53,8 +57,11 @@ loop-less : tie.Need-loop-less Inv-loop μ-loop
 loop-less c = search needs
 
 loop-again : tie.Need-loop-again Inv-loop μ-loop
-loop-again c = let x = c .before .before .before .before .before .before .before .args in
-    let l = c .before .before .loop in
+loop-again c =
+    let start : tie.Start Inv-loop μ-loop = search in
+    let x = start .args in
+    let at-loop : tie.At-loop Inv-loop μ-loop = search in
+    let l = at-loop .loop in
     let h = hexOf (x .src .now) in (
       search needs,
       search needs,
@@ -71,7 +78,9 @@ same-length : tie.Need-same-length Inv-loop μ-loop
 same-length c = search needs
 
 returns-3 : tie.Need-returns-3 Inv-loop μ-loop
-returns-3 c = let x = c .before .before .before .before .before .before .args in
+returns-3 c =
+    let start : tie.Start Inv-loop μ-loop = search in
+    let x = start .args in
     let l = c .before .loop in
     let o = x .out .now in
     let h = hexOf (x .src .now) in

@@ -31,10 +31,14 @@ cast-n : tie.Need-cast-n Inv-loop μ-loop
 cast-n c = search needs
 
 add-n : tie.Need-add-n Inv-loop μ-loop
-add-n c = let x = c .before .before .before .before .before .args in
-    let l = c .before .before .before .loop in
-    let d = digit-at 16 (x .s .now) (l .i) (c .before .before .before .before .before .pre .1) (omega arith) in
-    omega (arith, room (l .n) (l .i) (c .digit .result) (l .inv .1) (omega (arith, d)) (c .before .before .loop-test .taken) .1)
+add-n c =
+    let start : tie.Start Inv-loop μ-loop = search in
+    let x = start .args in
+    let at-loop : tie.At-loop Inv-loop μ-loop = search in
+    let l = at-loop .loop in
+    let d = digit-at 16 (x .s .now) (l .i) (start .pre .1) (omega arith) in
+    let in-loop : tie.In-loop Inv-loop μ-loop = search in
+    omega (arith, room (l .n) (l .i) (c .digit .result) (l .inv .1) (omega (arith, d)) (in-loop .loop-test .taken) .1)
 
 add-i : tie.Need-add-i Inv-loop μ-loop
 add-i c = search needs
@@ -43,12 +47,16 @@ loop-less : tie.Need-loop-less Inv-loop μ-loop
 loop-less c = search needs
 
 loop-again : tie.Need-loop-again Inv-loop μ-loop
-loop-again c = let x = c .before .before .before .before .before .args in
-    let l = c .before .before .before .loop in
-    let d = digit-at 16 (x .s .now) (l .i) (c .before .before .before .before .before .pre .1) (omega arith) in
-    let more = spelt-more 16 (x .s .now) (l .i) (l .n) (omega arith) in (
+loop-again c =
+    let start : tie.Start Inv-loop μ-loop = search in
+    let x = start .args in
+    let at-loop : tie.At-loop Inv-loop μ-loop = search in
+    let l = at-loop .loop in
+    let d = digit-at 16 (x .s .now) (l .i) (start .pre .1) (omega arith) in
+    let more = spelt-more 16 (x .s .now) (l .i) (l .n) (omega arith) in
+    let in-loop : tie.In-loop Inv-loop μ-loop = search in (
       search needs,
-      room (l .n) (l .i) (c .digit .result) (l .inv .1) (omega (arith, d)) (c .before .before .loop-test .taken) .0,
+      room (l .n) (l .i) (c .digit .result) (l .inv .1) (omega (arith, d)) (in-loop .loop-test .taken) .0,
       l .inv .2 ∙ more
           ∙ ap (λ e. spelt 16 (l .n * 16 + e) (drop (l .i + 1) (x .s .now))) (sym (c .digit .ensures .0)),
     )

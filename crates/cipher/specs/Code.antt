@@ -1,0 +1,11 @@
+-- Of the code: what contracts of private functions name. Nothing here need be believed: every callable routine's contract is
+-- stated without it.
+-- Assumes nothing.
+use mathlib.Core.List.{List, _∷_, _++_}
+use Prim.Native.Nat.{ℕ, _+_, _-_, _*_, _%_}
+use lib.ListN.{length, replicate}
+use Rattle.cipher.specs.Blocks.{twoOctets}
+
+-- the octets d with the padding of a string of which b octets, a multiple of 16, went before d
+unfoldable pub paddedAfter : ℕ → List ℕ → List ℕ
+paddedAfter b d = d ++ (0x80 ∷ replicate ((29 - length d % 16) % 16) 0 ++ twoOctets (8 * (b + length d)))
