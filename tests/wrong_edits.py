@@ -58,7 +58,8 @@ FACTS = re.compile(
 # What it says where the proof's text does not fit the code, whatever holds of it.
 SHAPES = re.compile(
     r"has no (`|field|member|name)|not in scope|unknown|no such|is not defined|missing (field|clause|case)|"
-    r"not covered|too (many|few) arguments|is not a (record|function)|^`(Inv|μ)-")
+    r"not covered|too (many|few) arguments|is not a (record|function)|"
+    r"^`((Inv|μ)-|[\w-]+-spec`)")
 # What follows from another refusal.
 ECHO = re.compile(r"was not admitted \(it has holes or undetermined implicits, or was rejected\)")
 
@@ -270,8 +271,11 @@ def judge(edit, log, messages):
     if verdict[2] == "no proof" and not verdict[3].partition("; ")[2].startswith("it calls"):
         own.append(verdict[3].partition("; ")[2])  # the kit makes it, and says here what it could not close
     facts = [text for text in own if FACTS.search(text) and not SHAPES.search(text.splitlines()[0])]
-    if facts:  # what it answers, or leaves, tells more than what it asks of those that it calls
-        return FACT, short(next((text for text in facts if text.startswith("`returns")), facts[0]))
+    # What it answers or leaves tells more than what it asks of those that it calls; and where the proof's
+    # text does not fit, nothing but that is counted.
+    ends = [text for text in facts if re.match("`(returns|loop|search)", text)]
+    if ends or (facts and len(facts) == len(own)):
+        return FACT, short((ends or facts)[0])
     if own:
         return SHAPE, short(own[0])
     if verdict[2] == "proved":
