@@ -8,7 +8,7 @@ each gets a network key, asks for a link key of its own, proves it and uses it.
 
     python3 tests/bv08.py           the repository's target/bin/bench
     python3 tests/bv08.py -v        the same, with every line sent and answered
-    python3 tests/bv08.py --bench 'python3 independent/bench.py --answer'
+    python3 tests/bv08.py --bench 'python3 -m independent bench --answer'
 
 Every command is written on one board, sealed there, handed over as octets, and opened and read on
 the other, which learns keys and addresses from what it read and from nowhere else. Frames between

@@ -3,7 +3,7 @@
 
     python3 tests/wireshark.py                      the repository's target/bin/bench
     python3 tests/wireshark.py --keep frames.pcap   the same, and keeps the capture to look at
-    python3 tests/wireshark.py --bench 'python3 independent/bench.py --answer'
+    python3 tests/wireshark.py --bench 'python3 -m independent bench --answer'
 
 It needs Wireshark's command `tshark` (Debian: apt-get install -y tshark), and is no part of the
 gate. A board seals network frames of many headers and lengths, and APS frames inside of network

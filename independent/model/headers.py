@@ -6,8 +6,8 @@ nonce", and the order of "Opening and sealing"; DECISIONS 3 to 6 and 13.
 
 from dataclasses import dataclass
 
-from lines import refuse_if
-from tables import nobody
+from ..lines import refuse_if
+from .tables import nobody
 
 NETWORK, APS = 0, 1
 TAG = 4

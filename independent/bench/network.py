@@ -4,10 +4,10 @@ Document 01, "Layout of a network frame", "Opening and sealing", "Bench cases" a
 seen on benches"; readings, parts 1 and 3, where a bench line can show the point.
 """
 
-import ccm
-from bench_tools import (ALL_ONES, ALTERED, GENUINE, NETWORK_HEADER, OWN, TOP, key, network_frame,
-                         no, opened, put, unsecured)
-from lines import flip, ok, run_of
+from ..lines import flip, ok, run_of, sure
+from ..model import ccm
+from .tools import (ALL_ONES, ALTERED, GENUINE, NETWORK_HEADER, OWN, TOP, key, network_frame, no,
+                    opened, put, unsecured)
 
 SENDER = 0x00124B00AABBCCDD
 M1_SENDER = 0x0000000100000000
@@ -313,7 +313,7 @@ def add_sealing(bench):
     bench.group("01: sealing 98 octets gives 116; 99 gives 2")
     plain = NETWORK_HEADER + run_of(90)
     frame = network_frame(key(1), 0, OWN, counter, run_of(90))
-    assert (len(plain), len(frame)) == (98, 116)
+    sure((len(plain), len(frame)) == (98, 116), "octets of the longest frame", len(plain), len(frame))
     bench.seal(plain, ok(frame))
     bench.seal(plain + b"\x00", no(2))
     hear(bench, frame, plain, OWN)

@@ -3,11 +3,8 @@
 The bench language, "Lines", "Stale or forged" and its table; DECISIONS, "The bench language".
 """
 
-import commands
-import lines
-import mmo
-import opening
-import tables
+from .. import lines
+from ..model import commands, mmo, opening, tables
 
 STORED_ROWS = 1024
 LENT = (116, tables.ROWS, tables.ROWS)

@@ -4,9 +4,9 @@ Document 01, "The state and the lists" and "Requests that change keys"; readings
 and 11, part 3, points 4 to 6 and 11, and the slip of rows that are freed.
 """
 
-from bench_tools import (ALL_ONES, COMMAND_HEADER, GENUINE, NETWORK_HEADER, OWN, Station, aps_frame,
-                         key, network_frame, no, opened)
-from lines import address, flip, ok
+from ..lines import address, flip, ok
+from .tools import (ALL_ONES, COMMAND_HEADER, GENUINE, NETWORK_HEADER, OWN, Station, aps_frame, key,
+                    network_frame, no, opened)
 
 SENDERS = [0x00124B0000000100 + i for i in range(40)]
 STRANGER = 0x00124B00DEADBEEF

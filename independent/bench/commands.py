@@ -1,12 +1,12 @@
 """The script of `bench`: APS commands read and written, TLVs, the APS counter.
 
 Document 01, "The commands"; readings, part 1, points 14 to 18, part 2, points 7, 8 and 12, part 3,
-points 8, 10 and 12. Layouts and protections are written out here once more, apart from commands.py.
+points 8, 10 and 12. Layouts and protections are written out here once more, apart from model/commands.py.
 """
 
-from bench_tools import ALL_ONES, OWN, no
-from lines import Chance, address, ok, run_of
-from vectors import annexc
+from ..lines import Chance, address, ok, run_of, sure
+from ..published import annexc
+from .tools import ALL_ONES, OWN, no
 
 DEVICE, TRUST = 0x00124B00AABBCCDD, 0x0102030405060708
 WIRE_DEVICE, WIRE_TRUST = bytes.fromhex("ddccbbaa004b1200"), bytes.fromhex("0807060504030201")
@@ -59,7 +59,7 @@ def read(bench, protection, body, expect, control=0x41):
 
 def least(word, body):
     """A body cut to its least size."""
-    assert len(body) == LEAST[word], word
+    sure(len(body) == LEAST[word], "not the least octets of", word)
     return body
 
 

@@ -4,11 +4,8 @@ Document 01, "The auxiliary header and the nonce" and "Opening and sealing"; the
 "Stale or forged"; DECISIONS 1 to 8, 19 and 22. The output is told by its length alone.
 """
 
-import ccm
-import headers
-import mmo
-import tables
-from lines import refuse_if
+from . import ccm, headers, mmo, tables
+from ..lines import refuse_if
 
 ROOM = 116
 OPEN_MOST = {headers.NETWORK: 116, headers.APS: 108}

@@ -4,15 +4,10 @@ Frames that no sealing board makes (other controls, levels, short auxiliary head
 together here from document 01, "The auxiliary header and the nonce".
 """
 
-import sys
-
-import ccm
-import lines
-import mmo
-import opening
-import tables
-from bench_desk import Desk
-from lines import address, ok
+from .. import lines
+from ..lines import address, ok
+from ..model import ccm, mmo, opening, tables
+from .desk import Desk
 
 ALL_ONES = 2**64 - 1
 TOP = 2**32 - 1
@@ -68,9 +63,8 @@ class Bench(lines.Script):
             return None
         answer = self.desk.answer(line)
         self.given.append((line, answer))
-        if expect is not None and answer != expect:
-            sys.exit(f"line {len(self.lines)}, {line!r}: expected {expect!r}, "
-                     f"our answer is {answer!r}")
+        if expect is not None:
+            lines.as_expected(len(self.lines), line, expect, answer)
         return answer
 
     def add(self, *fields, expect=None):

@@ -2,20 +2,20 @@
 
 Document 01, "Opening and sealing", "The commands", "Hash", "Bench cases" and "Slips we have seen on
 benches"; the language of `margins`. The board is written out here once more, apart from
-margins.py, and every line has the answer that its author expects; numbers of DECISIONS are those
+desk.py, and every line has the answer that its author expects; numbers of DECISIONS are those
 under "Document 01".
 """
 
 from dataclasses import dataclass
 
-import mmo
-from aes import encipher
-from bench_aps import HEADERS
-from bench_network import ODD_HEADERS, header_of
-from bench_tools import (ALL_ONES, COMMAND_HEADER, DATA_HEADER, NETWORK_HEADER, TOP, aps_frame,
-                         hashed, network_frame, put)
-from ccm import blocks, xor
-from lines import Chance, Script, address, flip, lines_of, ok, refused, run_of
+from ..bench.aps import HEADERS
+from ..bench.network import ODD_HEADERS, header_of
+from ..bench.tools import (ALL_ONES, COMMAND_HEADER, DATA_HEADER, NETWORK_HEADER, TOP, aps_frame,
+                           hashed, network_frame, put)
+from ..lines import Chance, Script, address, flip, lines_of, ok, refused, run_of, sure
+from ..model import mmo
+from ..model.aes import encipher
+from ..model.ccm import blocks, xor
 
 ROOMS = (0, 1, 107, 108, 115, 116, 117, 200, 256)
 LEAST_LINES, MOST_LINES = 400, 700
@@ -197,7 +197,7 @@ def add_open_refusals(script):
 def add_open_forged(script):
     """One bit of a genuine frame changed, in each of its parts; and other forgeries."""
     good = network(B1, 150, run_of(10))
-    assert len(good) == 36
+    sure(len(good) == 36, "octets of the network frame to alter", len(good))
     script.group("open, 9: each of the last 4 octets; header, auxiliary header, payload")
     for place in (*range(32, 36), 2, 4, 7, 9, 13, 22, 27, 31):
         script.once("open", flip(good, 8 * place), gives=9)
@@ -257,7 +257,7 @@ def add_open_aps_forms(script):
                     gives=heard_aps(header + b"\x41\x42", A2, 40, 3))
     for carried, length in ((True, 83), (False, 91)):
         frame = aps(A1, 100, run_of(length), header=DATA_HEADER, carried=carried)
-        assert len(frame) == 108
+        sure(len(frame) == 108, "octets of a frame that is to have 108", len(frame))
         script.ask(116, "openaps", address(A1), frame,
                    gives=heard_aps(DATA_HEADER + run_of(length), A1, 100))
     script.group("openaps: payloads of 0 and 17 octets; level, bits 6 and 7; DECISIONS 5: "
@@ -308,7 +308,7 @@ def add_open_aps_refusals(script):
 def add_open_aps_forged(script):
     """One bit of genuine frames changed, in each of their parts; and other forgeries."""
     good = aps(A1, 150, run_of(10))
-    assert len(good) == 29
+    sure(len(good) == 29, "octets of the APS frame to alter", len(good))
     script.group("openaps, 9: each of the last 4 octets; header, auxiliary header, payload; "
                  "the last 4 again under identifiers 2 and 3, 5 octets")
     for place in (*range(25, 29), 1, 6, 15, 20, 24):
@@ -341,7 +341,7 @@ def add_seal(script):
         script.once("seal", header + b"\x51\x52", gives=done(header, b"\x51\x52"))
     script.group("seal: 98 octets give 116, 99 give 2")
     longest = done(NETWORK_HEADER, run_of(90))
-    assert len(longest.frame) == 116
+    sure(len(longest.frame) == 116, "octets of the longest network frame", len(longest.frame))
     for room in (116, 256):
         script.ask(room, "seal", NETWORK_HEADER + run_of(90), gives=longest)
     script.mostly("seal", NETWORK_HEADER + run_of(91), gives=2)
@@ -374,7 +374,7 @@ def add_seal_aps(script):
         script.once("sealaps", address(A2), 3, header, gives=done(A2, 3, header))
     script.group("sealaps: 91 octets give 108, 92 give 2")
     longest = done(A1, 2, DATA_HEADER, run_of(83))
-    assert len(longest.frame) == 108
+    sure(len(longest.frame) == 108, "octets of the longest APS frame", len(longest.frame))
     for room in (116, 256):
         script.ask(room, "sealaps", address(A1), 2, DATA_HEADER + run_of(83), gives=longest)
     cases = (
@@ -482,7 +482,7 @@ def add_parts(script):
     """Parts of every command, in frames of all-different octets."""
     script.group("parts of every command, under every protection")
     for word, (protections, body, parts) in COMMANDS.items():
-        assert len(set(FRONT + body)) == len(FRONT + body), word
+        sure(len(set(FRONT + body)) == len(FRONT + body), "an octet stands twice in", word)
         for part, octets in parts.items():
             for under in ("none", 0, 2, 3):
                 script.add(part, under, FRONT + body,
@@ -579,7 +579,7 @@ def add_hashes(script):
     script.add("hash", "c0", expect=ok("ae3a102a28d43ee0d4a09e22788b206c"))  # Annex C.5.1
     for length, end in HASH_ENDS.items():
         padded = run_of(length) + bytes.fromhex(end)
-        assert len(padded) % 16 == 0
+        sure(len(padded) % 16 == 0, "octets that make no whole blocks", len(padded))
         script.add("hash", run_of(length), expect=ok(chained(padded)))
     for length in (257, 300, 512):
         script.add("hash", run_of(length), expect=TOO_LONG)
@@ -663,8 +663,9 @@ def make_script():
                 add_hashes, add_chance, add_bad, add_fine):
         add(script)
     answered = {n for n, line in enumerate(script.lines, 1) if line and not line.startswith(b"#")}
-    assert set(script.expected) == answered, "a line has no expected answer"
-    assert LEAST_LINES <= len(script.lines) <= MOST_LINES, len(script.lines)
+    sure(set(script.expected) == answered, "lines without an expected answer",
+         sorted(set(script.expected) ^ answered))
+    sure(LEAST_LINES <= len(script.lines) <= MOST_LINES, "lines of the script", len(script.lines))
     return script
 
 
@@ -683,7 +684,8 @@ def check_outcomes(given):
     wanted = {(word, kind) for word in REFUSALS for kind in ("ok", "bad")}
     wanted |= {(word, "refused", str(number))
                for word, numbers in REFUSALS.items() for number in numbers}
-    assert found == wanted, sorted(map(str, found ^ wanted))
+    sure(found == wanted, "outcomes missed, or met and not allowed",
+         sorted(map(str, found ^ wanted)))
 
 
 def check_outputs(given):
@@ -696,14 +698,16 @@ def check_outputs(given):
         room = int(fields[0])
         output = answer[{"refused": 2, "ok": 3 if word.startswith("open") else 1}[kind]]
         if kind == "refused":
-            assert answer[2:] == ["ee" * room, *map(str, STAYS[word])], (word, fields)
+            sure(answer[2:] == ["ee" * room, *map(str, STAYS[word])],
+                 "a refusal changes something", word, fields)
         else:
             behind = output[2 * int(answer[0]):]
-            assert len(output) == 2 * room and behind == "ee" * (len(behind) // 2), (word, fields)
+            sure(len(output) == 2 * room and behind == "ee" * (len(behind) // 2),
+                 "the output behind the frame is not as it was", word, fields)
         met.add((word, room, int(answer[0]) if kind == "refused" else 0))
     wanted = {(word, room, number) for word in LEAST for room in ROOMS
               for number in ({1} if room < LEAST[word] else REFUSALS[word] - {1} | {0})}
-    assert met == wanted, sorted(met ^ wanted)
+    sure(met == wanted, "outcomes missed, or met and not allowed", sorted(met ^ wanted))
 
 
 def check_parts(given):
@@ -717,14 +721,16 @@ def check_parts(given):
         for part, octets in parts.items():
             for under in ("none", "0", "2", "3"):
                 wanted = part, under, frame, octets.hex() if under in good else ""
-                assert wanted in met, wanted
-        assert any((part, good[0], frame, "") in met for part in PARTS if part not in parts), frame
+                sure(wanted in met, "a part is not asked for", wanted)
+        sure(any((part, good[0], frame, "") in met for part in PARTS if part not in parts),
+             "no part that it lacks is asked of", frame)
     for word, lengths in (("hash", {0, 13, 14, 17, 32, 255, 256, 257, 300, 512}),
                           ("keyedhash", {0, 239, 240, 241, 256, 257, 512})):
         answers = [(len(fields[1]) // 2, answer) for fields, answer in given
                    if fields[0] == word and answer[0] != "bad"]
-        assert lengths <= {length for length, _ in answers}, word
-        assert all(answer[3:] == ["00" * 16] for _, answer in answers if answer[0] == "refused")
+        sure(lengths <= {length for length, _ in answers}, "lengths are missing", word)
+        sure(all(answer[3:] == ["00" * 16] for _, answer in answers if answer[0] == "refused"),
+             "a refused hash is not zeros", word)
 
 
 def check(files):

@@ -1,27 +1,14 @@
-"""Makes, checks or answers the scripts of the program `margins`, and is its desk.
+"""The desk of the program `margins`: what a call leaves in what it was lent, refusals too.
 
-margins.py              writes crates/margins/stdin and crates/margins/stdout
-margins.py --into DIR   writes stdin and stdout there
-margins.py --check      exits 1 if a stored file differs from what would be written
-margins.py --answer     answers the script on standard input
-
-What a call leaves in what it was lent, refusals too: the language of `margins`. Every line is
-answered on the same board, made anew for it, with the same lists and an output of octets EE.
+The language of `margins`. Every line is answered on the same board, made anew for it, with the same
+lists and an output of octets EE.
 """
 
-import sys
 from dataclasses import dataclass, field
-from pathlib import Path
 
-sys.dont_write_bytecode = True
-
-import commands
-import lines
-import mmo
-import opening
-import tables
-from bench_desk import ADDRESS, OCTET, protection, protection_field
-from margins_script import check, make_script
+from .. import lines
+from ..bench.desk import ADDRESS, OCTET, protection, protection_field
+from ..model import commands, mmo, opening, tables
 
 FRAME = lines.hex_field(0, 512)
 SIZE = lines.decimal_field(256)
@@ -201,43 +188,3 @@ class Desk:
         except lines.Bad:
             return "bad"
         return action(*arguments)
-
-
-# ---- files -------------------------------------------------------------------------------------
-
-def made():
-    """The script and its answers, compared with what is expected and with what must be shown."""
-    files = lines.made(make_script(), Desk())
-    check(files)
-    return files
-
-
-def write(folder):
-    """Writes both files into a folder that is there; the exit code."""
-    if not folder.is_dir():
-        print(f"{folder} is missing")
-        return 1
-    for name, octets in made().items():
-        (folder / name).write_bytes(octets)
-        print(f"{folder / name}: {len(lines.lines_of(octets))} lines")
-    return 0
-
-
-def main(arguments):
-    """Writes, checks or answers; the exit code."""
-    if arguments == ["--answer"]:
-        given = lines.answers(Desk(), sys.stdin.buffer.read())
-        sys.stdout.buffer.write(lines.written(given))
-        return 0
-    if arguments == ["--check"]:
-        return lines.check("margins", made())
-    if not arguments:
-        return write(lines.CRATES / "margins")
-    if len(arguments) == 2 and arguments[0] == "--into":
-        return write(Path(arguments[1]))
-    print(__doc__.strip())
-    return 2
-
-
-if __name__ == "__main__":
-    sys.exit(main(sys.argv[1:]))

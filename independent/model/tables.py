@@ -5,7 +5,7 @@ Document 01, "The state and the lists" and "Requests that change keys"; DECISION
 
 from dataclasses import dataclass, field
 
-from lines import Refused, refuse_if
+from ..lines import Refused, refuse_if
 
 ROWS = 64        # rows of a list, half of them for each slot
 SLOT_ROWS = 32

@@ -4,12 +4,11 @@ Document 01, "Layout of an APS frame", "The auxiliary header and the nonce", "Op
 and "Bench cases"; readings, parts 1 and 3, where a bench line can show the point.
 """
 
-import ccm
-import mmo
-from bench_tools import (ALL_ONES, ALTERED, COMMAND_HEADER, DATA_HEADER, GENUINE, GROUP_HEADER,
-                         NETWORK_HEADER, OWN, TOP, aps_frame, hashed, key, network_frame, no,
-                         opened, put, sealed, unsecured)
-from lines import flip, ok, run_of
+from ..lines import flip, ok, run_of, sure
+from ..model import ccm, mmo
+from .tools import (ALL_ONES, ALTERED, COMMAND_HEADER, DATA_HEADER, GENUINE, GROUP_HEADER,
+                    NETWORK_HEADER, OWN, TOP, aps_frame, hashed, key, network_frame, no, opened,
+                    put, sealed, unsecured)
 
 PARTNER = 0x00124B00AABBCCDD
 FRIEND = 0x00124B00AABBCCDE
@@ -258,7 +257,7 @@ def add_sealing(bench):
     bench.group("01: sealing 91 octets gives 108; 92 gives 2")
     plain = DATA_HEADER + run_of(83)
     frame = aps_frame(key(3), 0, OWN, counter, run_of(83), header=DATA_HEADER)
-    assert (len(plain), len(frame)) == (91, 108)
+    sure((len(plain), len(frame)) == (91, 108), "octets of the longest frame", len(plain), len(frame))
     bench.seal_aps(OWN, 0, plain, ok(frame))
     bench.seal_aps(OWN, 0, plain + b"\x00", no(2))
     hear(bench, frame, 0, plain, OWN)

@@ -1,18 +1,7 @@
-"""Makes, checks or answers the scripts of the program `trials`.
+"""The desk of the program `trials`: a board that can be put together at will, and headers."""
 
-trials.py            writes crates/trials/stdin and crates/trials/stdout
-trials.py --check    exits 1 if a stored file differs from what would be written
-trials.py --answer   answers the script on standard input
-"""
-
-import sys
-
-sys.dont_write_bytecode = True
-
-import headers
-import lines
-import tables
-from trials_script import make_script
+from .. import lines
+from ..model import headers, tables
 
 STORED_ROWS = 128
 EE = b"\xee" * 32  # an output before anything is laid into it
@@ -147,21 +136,3 @@ def read(found):
         return "plain", found
     return ("secured", found.header, found.aux, found.control, found.counter,
             lines.address(found.sender), found.sequence)
-
-
-def main(arguments):
-    """Writes, checks or answers; the exit code."""
-    if arguments == ["--answer"]:
-        given = lines.answers(Desk(), sys.stdin.buffer.read())
-        sys.stdout.buffer.write(lines.written(given))
-        return 0
-    if arguments == ["--check"]:
-        return lines.check("trials", lines.made(make_script(), Desk()))
-    if not arguments:
-        return lines.write("trials", lines.made(make_script(), Desk()))
-    print(__doc__.strip())
-    return 2
-
-
-if __name__ == "__main__":
-    sys.exit(main(sys.argv[1:]))

@@ -6,8 +6,8 @@ Document 01, "The commands" and the table of refusals; the fields' order is that
 
 from dataclasses import dataclass
 
-import headers
-from lines import refuse_if
+from . import headers
+from ..lines import refuse_if
 
 MOST = 108
 ROOM = 108

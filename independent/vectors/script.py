@@ -1,110 +1,9 @@
-"""Makes, checks or answers the scripts of the program `vectors`.
+"""The script of the program `vectors`: every published value, and the edges of lengths and refusals."""
 
-vectors.py            writes crates/vectors/stdin and crates/vectors/stdout
-vectors.py --check    exits 1 if a stored file differs from what would be written
-vectors.py --answer   answers the script on standard input
-"""
-
-import sys
-from pathlib import Path
-
-sys.dont_write_bytecode = True
-
-import aes
-import ccm
-import lines
-import mmo
-from lines import Script, flip, ok, refuse_if, refused, run_of
-
-HERE = Path(__file__).resolve().parent
-
-MOST = 128       # octets of A and of P
-LENT_MOST = 256  # octets of a lent output
-
-
-# ---- the line language -------------------------------------------------------------------------
-
-SIXTEEN = lines.hex_field(16, 16)
-NONCE = lines.hex_field(13, 13)
-TEXT = lines.hex_field(0, 256)
-DATA = lines.hex_field(0, 512)
-TAG = lines.decimal_field(255)
-
-
-class Desk:
-    """Answers lines; remembers only the length of the output lent to seal and open."""
-
-    def __init__(self):
-        self.lent = LENT_MOST
-        self.words = {
-            b"aes": ((SIXTEEN, SIXTEEN), lambda *a: [aes.encipher(*a)]),
-            b"seal": ((TAG, SIXTEEN, NONCE, TEXT, TEXT), self.seal),
-            b"open": ((TAG, SIXTEEN, NONCE, TEXT, TEXT), self.open),
-            b"hash": ((DATA,), lambda d: hashed(mmo.digest, d)),
-            b"keyedhash": ((SIXTEEN, DATA), lambda k, d: hashed(mmo.keyed, k, d)),
-            b"lend": ((lines.decimal_field(LENT_MOST),), self.lend),
-        }
-
-    def answer(self, line):
-        """What follows the line's number."""
-        return lines.run_line(self.words, line)
-
-    def lend(self, size):
-        """Sets the length lent from now on; has no octets to answer."""
-        self.lent = size
-        return ()
-
-    def seal(self, M, key, nonce, a, p):
-        """Annex A.2 behind the refusals 14, 2 and 1."""
-        refuse_if(M not in ccm.TAGS, 14)
-        refuse_if(len(a) > MOST or len(p) > MOST, 2)
-        refuse_if(self.lent < len(p) + M, 1)
-        return [ccm.seal(M, key, nonce, a, p)]
-
-    def open(self, M, key, nonce, a, c):
-        """Annex A.3 behind the refusals 14, 2, 3 and 1, then 9."""
-        refuse_if(M not in ccm.TAGS, 14)
-        refuse_if(len(a) > MOST or len(c) > MOST + M, 2)
-        refuse_if(len(c) < M, 3)
-        refuse_if(self.lent < len(c) - M, 1)
-        plain = ccm.open(M, key, nonce, a, c)
-        refuse_if(plain is None, 9)
-        return [plain]
-
-
-def hashed(function, *arguments):
-    """The hash, or 2."""
-    try:
-        return [function(*arguments)]
-    except mmo.TooLong:
-        raise lines.Refused(2) from None
-
-
-# ---- the published vectors ---------------------------------------------------------------------
-
-def table(name):
-    """The rows of a file in data/, comment lines left out."""
-    text = (HERE / "data" / name).read_text(encoding="ascii")
-    return [line.split("\t") for line in text.splitlines() if line and not line.startswith("#")]
-
-
-def fips197():
-    """Rows of appendix, key, block, enciphered."""
-    return [(name, *map(bytes.fromhex, rest)) for name, *rest in table("fips197.tsv")]
-
-
-def rfc3610():
-    """Rows of number, M, key, nonce, a, m, sealed."""
-    return [(name, int(M), *map(bytes.fromhex, rest)) for name, M, *rest in table("rfc3610.tsv")]
-
-
-def annexc():
-    """Rows of clause, word, the word's fields as text, the published octets."""
-    return [(clause, word, fields, bytes.fromhex(result))
-            for clause, word, *fields, result in table("annexc.tsv")]
-
-
-# ---- the script --------------------------------------------------------------------------------
+from ..lines import Script, flip, ok, refused, run_of
+from ..model import ccm, mmo
+from ..published import annexc, fips197, rfc3610
+from .desk import MOST
 
 KEY = bytes(range(0x10, 0x20))
 N13 = bytes(range(0xA0, 0xAD))
@@ -328,21 +227,3 @@ def make_script():
                 add_refusals, add_lends, add_bad, add_fine):
         add(script)
     return script
-
-
-def main(arguments):
-    """Writes, checks or answers; the exit code."""
-    if arguments == ["--answer"]:
-        given = lines.answers(Desk(), sys.stdin.buffer.read())
-        sys.stdout.buffer.write(lines.written(given))
-        return 0
-    if arguments == ["--check"]:
-        return lines.check("vectors", lines.made(make_script(), Desk()))
-    if not arguments:
-        return lines.write("vectors", lines.made(make_script(), Desk()))
-    print(__doc__.strip())
-    return 2
-
-
-if __name__ == "__main__":
-    sys.exit(main(sys.argv[1:]))

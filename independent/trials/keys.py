@@ -1,6 +1,6 @@
 """The part of trials' script that makes boards and changes keys."""
 
-from lines import Chance, ok, refused
+from ..lines import Chance, ok, refused
 
 OWN = "00124b0001020304"
 ZERO, ONES = "0" * 16, "f" * 16

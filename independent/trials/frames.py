@@ -1,6 +1,6 @@
 """The part of trials' script that reads frames and lays headers."""
 
-from lines import Chance, ok, refused
+from ..lines import Chance, ok, refused
 
 ZERO, ONES = "0" * 16, "f" * 16
 SENDER, WIRE_SENDER = "0000000100000000", "0000000001000000"

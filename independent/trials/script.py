@@ -1,8 +1,8 @@
 """The script of the program `trials`."""
 
-from lines import Script, ok
-from trials_frames import PLAIN, add_frames
-from trials_keys import K, LAST, OWN, P1, add_keys, links, rows, show, slots
+from ..lines import Script, ok
+from .frames import PLAIN, add_frames
+from .keys import K, LAST, OWN, P1, add_keys, links, rows, show, slots
 
 KEY = K.hex()
 # A good line of each word, and the kind of each of its fields.

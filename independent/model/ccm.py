@@ -1,6 +1,6 @@
 """CCM* of Annex A (Zigbee, 2005 edition) with L = 2 and AES-128."""
 
-from aes import encipher
+from .aes import encipher
 
 L = 2
 NONCE = 15 - L

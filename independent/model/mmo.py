@@ -1,7 +1,7 @@
 """The AES-MMO hash and the keyed hash (document 01, "Hash"; Annex B.6 and B.1.4)."""
 
-from aes import encipher
-from ccm import blocks, xor
+from .aes import encipher
+from .ccm import blocks, xor
 
 HASH_MOST = 256
 KEYED_MOST = 240

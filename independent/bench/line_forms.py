@@ -4,10 +4,10 @@ The bench language, "Lines"; the points of readings, part 2, and of DECISIONS, "
 language", are named in the script's comments.
 """
 
-import mmo
-from bench_tools import (ALL_ONES, COMMAND_HEADER, NETWORK_HEADER, OWN, TOP, WELL_KNOWN, aps_frame,
-                         key, network_frame, no, opened)
-from lines import address, ok, run_of
+from ..lines import address, ok, run_of
+from ..model import mmo
+from .tools import (ALL_ONES, COMMAND_HEADER, NETWORK_HEADER, OWN, TOP, WELL_KNOWN, aps_frame, key,
+                    network_frame, no, opened)
 
 OTHER = 0x00124B00AABBCCDD
 A, K, F = address(OTHER), key(1).hex(), "0800fcff00001e0155"

@@ -5,11 +5,10 @@ and every replay has the answer that its maker expects; what altered, cut and od
 model's answer.
 """
 
-import mmo
-import opening
-from bench_tools import (DATA_HEADER, GENUINE, OWN, WELL_KNOWN, Station, aps_frame, key, no, opened,
-                         unsecured)
-from lines import Chance, address, flip, ok, run_of
+from ..lines import Chance, address, flip, ok, run_of, sure
+from ..model import mmo, opening
+from .tools import (DATA_HEADER, GENUINE, OWN, WELL_KNOWN, Station, aps_frame, key, no, opened,
+                    unsecured)
 
 CENTRE, ROUTER, END = 0xAAAAAAAAAAAAAAAA, 0x0000000100000000, 0x0000000000000001
 NETWORK_KEY = bytes.fromhex("abcdef01234567890000000000000000")
@@ -27,7 +26,7 @@ def wire(number):
 def octets_of(answer):
     """The octets of an answer with one field."""
     word, octets = answer.split("\t")
-    assert word == "ok"
+    sure(word == "ok", "a frame of the joining is not sealed or written", word)
     return bytes.fromhex(octets)
 
 
@@ -35,7 +34,8 @@ def hand_out(bench, station, identifier, ack, *command):
     """A command written and sealed for a station, whose board opens it."""
     plain = octets_of(bench.add("write", ack, *command))
     frame = octets_of(bench.seal_aps(station.own, identifier, plain))
-    assert opening.open_aps(station.board, 116, 0, frame) == (CENTRE, identifier, plain)
+    sure(opening.open_aps(station.board, 116, 0, frame) == (CENTRE, identifier, plain),
+         "a frame of the joining does not open", frame.hex())
     return frame
 
 
@@ -64,7 +64,7 @@ def add_device(bench, station, unique, ack, router=None):
                      address(CENTRE))
     if router is not None:
         tunnel = octets_of(bench.add("write", "ack", "tunnel", address(own), frame))
-        assert tunnel[2:] == b"\x0e" + wire(own) + frame
+        sure(tunnel[2:] == b"\x0e" + wire(own) + frame, "the tunnel has other octets", tunnel.hex())
         bench.seal(TO_ROUTER + tunnel)
         bench.add("read", "none", tunnel, expect=ok("tunnel", address(own), frame))
     take_in(bench, station, 0, b"\x41\x01\x08\x04", ok("request4"))
@@ -229,12 +229,13 @@ class Play:
             plain = self.network_plain()
             frame = octets_of(self.bench.seal(plain))
             given = opening.open_network(station.board, *station.lists, 116, frame)
-            assert given == (OWN, 1, plain)
+            sure(given == (OWN, 1, plain), "a frame of the play opens to another", plain.hex())
         else:
             plain, identifier = self.aps_plain(), self.chance.pick((0, 2, 3))
             frame = octets_of(self.bench.seal_aps(station.own, identifier, plain))
             given = opening.open_aps(station.board, 116, 0, frame)
-            assert given == (OWN, identifier, plain)
+            sure(given == (OWN, identifier, plain), "a frame of the play opens to another",
+                 plain.hex())
 
     def keys_change(self):
         """Keys sent again, replaced or removed; senders forgotten."""

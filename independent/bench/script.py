@@ -3,14 +3,15 @@
 Document 01, the table of refusals and their orders: which line can be refused with which number.
 """
 
-import bench_aps
-import bench_commands
-import bench_keys
-import bench_lines
-import bench_network
-import bench_play
-import commands
-from bench_tools import Bench
+from ..lines import sure
+from ..model.commands import KINDS
+from .aps import add_aps
+from .commands import add_commands
+from .keys import add_keys
+from .line_forms import add_bad_lines, add_desk, add_fine, add_last, add_without_board
+from .network import add_network
+from .play import add_play
+from .tools import Bench
 
 REFUSALS = {  # every number that a line can be refused with, by document 01
     "board": {14},
@@ -61,7 +62,8 @@ def wanted():
 def check_outcomes(bench):
     """Every outcome that document 01 allows is met, and none that it doesn't."""
     found = {outcome for outcome in outcomes(bench) if outcome[0] in REFUSALS}
-    assert found == set(wanted()), sorted(map(str, found ^ set(wanted())))
+    sure(found == set(wanted()), "outcomes missed, or met and not allowed",
+         sorted(map(str, found ^ set(wanted()))))
 
 
 def check_commands(bench):
@@ -71,12 +73,13 @@ def check_commands(bench):
              if fields[0] == b"read" and answer[0] != "bad"]
     writes = [(fields[2], answer) for fields, answer in given
               if fields[0] == b"write" and answer[0] != "bad"]
-    for kind in commands.KINDS:
+    for kind in KINDS:
         start, word = kind.start.hex().encode("ascii"), kind.word.encode("ascii")
         found = [answer[:2] for octets, answer in reads if octets.startswith(start)]
         for wanted_answer in (["ok", kind.word], ["refused", "11"], ["refused", "12"]):
-            assert wanted_answer in found, (kind.word, wanted_answer)
-        assert any(written == word and answer[0] == "ok" for written, answer in writes), word
+            sure(wanted_answer in found, "an answer is not shown", kind.word, wanted_answer)
+        sure(any(written == word and answer[0] == "ok" for written, answer in writes),
+             "a command is not written", kind.word)
 
 
 def check_shares(bench):
@@ -85,18 +88,17 @@ def check_shares(bench):
              if line.startswith((b"open\t", b"openaps\t")) and answer != "bad"]
     accepted = [answer for answer in opens if answer.startswith("ok")]
     secured = [answer for answer in accepted if answer.split("\t")[2] != "none"]
-    assert 3 * len(secured) >= len(opens) - (len(accepted) - len(secured)), "too few frames open"
-    assert 3 * len(accepted) >= len(opens), "too few frames open"
-    assert LEAST_LINES <= len(bench.lines) <= MOST_LINES, len(bench.lines)
+    sure(3 * len(secured) >= len(opens) - (len(accepted) - len(secured)),
+         "secured frames that open are too few", len(secured))
+    sure(3 * len(accepted) >= len(opens), "frames that open are too few", len(accepted))
+    sure(LEAST_LINES <= len(bench.lines) <= MOST_LINES, "lines of the script", len(bench.lines))
 
 
 def make_script():
     """The whole script."""
     bench = Bench()
-    for add in (bench_lines.add_without_board, bench_lines.add_desk, bench_lines.add_bad_lines,
-                bench_lines.add_fine, bench_keys.add_keys, bench_network.add_network,
-                bench_aps.add_aps, bench_commands.add_commands, bench_play.add_play,
-                bench_lines.add_last):
+    for add in (add_without_board, add_desk, add_bad_lines, add_fine, add_keys, add_network,
+                add_aps, add_commands, add_play, add_last):
         add(bench)
     for check in (check_outcomes, check_commands, check_shares):
         check(bench)
