@@ -22,10 +22,11 @@ The last line is `all steps as asked`, and the exit code 0; at the first differe
 
 import argparse
 import sys
+from pathlib import Path
 
-sys.dont_write_bytecode = True
+sys.path.insert(0, str(Path(__file__).resolve().parent.parent))
 
-from benches import BENCH_HELP, Bench, Differs, bench_words, flipped, least, text
+from bench_pipe import BENCH_HELP, Bench, Differs, bench_words, flipped, in_words, least, text
 
 SHARED_KEY = b"ZigBeeAlliance09"
 NETWORK_KEY = bytes.fromhex("abcdef01234567890000000000000000")
@@ -355,4 +356,4 @@ def main():
 
 
 if __name__ == "__main__":
-    sys.exit(main())
+    sys.exit(in_words(main))

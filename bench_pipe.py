@@ -1,4 +1,4 @@
-"""What the scripts of this folder share: bench processes, talked to line by line through pipes.
+"""Bench processes, talked to line by line through pipes: for desk.py and the scripts of tests/.
 
 A bench answers one line for each line it is sent (the bench language). By default it is the
 repository's own program, target/bin/bench, which is for x86-64 Linux; on another processor it runs
@@ -14,7 +14,7 @@ import subprocess
 import sys
 from pathlib import Path
 
-ROOT = Path(__file__).resolve().parent.parent
+ROOT = Path(__file__).resolve().parent
 PROGRAM = ROOT / "target" / "bin" / "bench"
 PATIENCE = 60  # seconds until an answer that doesn't come is given up
 BENCH_HELP = ("the command that starts a bench, as one string "
@@ -31,6 +31,24 @@ def give_up(message):
     """Says why nothing can be run, and exits with 2."""
     print(message, file=sys.stderr)
     sys.exit(2)
+
+
+def in_words(main):
+    """Runs a script's main and says in words what went wrong; the exit code."""
+    try:
+        code = main()
+        sys.stdout.flush()
+        return code
+    except Differs as difference:
+        print(difference, file=sys.stderr)
+        return 1
+    except BrokenPipeError:  # whoever read what is printed has gone
+        os.dup2(os.open(os.devnull, os.O_WRONLY), sys.stdout.fileno())
+        return 1
+    except OSError as fault:
+        give_up(f"{fault.filename or 'a file or pipe'}: {fault.strerror}")
+    except KeyboardInterrupt:
+        return 130
 
 
 def kit_tools():
@@ -60,7 +78,15 @@ def started_by(program):
 
 def bench_words(command):
     """The words that start a bench: those of the command, or of the repository's own program."""
-    return started_by(PROGRAM) if command is None else shlex.split(command)
+    if command is None:
+        return started_by(PROGRAM)
+    try:
+        words = shlex.split(command)
+    except ValueError:
+        words = []
+    if not words:
+        give_up(f"--bench {command!r} is no command")
+    return words
 
 
 # ---- a process ---------------------------------------------------------------------------------
@@ -80,28 +106,32 @@ class Bench:
     def ask(self, *fields):
         """Sends one line; the fields of its answer, without the line's number."""
         line = "\t".join(map(text, fields))
-        self.lines += 1
         self.show("<", line)
-        try:
-            self.process.stdin.write(line.encode("ascii") + b"\n")
-            self.process.stdin.flush()
-        except BrokenPipeError:
-            raise Differs(f"{self.name} ended before line {self.lines}: {line}") from None
-        answer = self.answer(line)
+        answer = self.answer_to(line.encode("ascii")).decode("ascii", "replace")
         self.show(">", answer)
         number, *rest = answer.split("\t")
         if number != str(self.lines) or not rest:
             raise Differs(f"{self.name} answered line {self.lines} with: {answer}")
         return rest
 
+    def answer_to(self, line):
+        """Sends one line as it stands; the line that is answered, or None where none is due."""
+        self.lines += 1
+        try:
+            self.process.stdin.write(line + b"\n")
+            self.process.stdin.flush()
+        except BrokenPipeError:
+            raise Differs(f"{self.name} ended before line {self.lines}: {readable(line)}") from None
+        return None if line == b"" or line.startswith(b"#") else self.answer(line)
+
     def answer(self, line):
         """The line that the process writes next."""
         if not select.select([self.process.stdout], [], [], PATIENCE)[0]:
-            raise Differs(f"{self.name} gave no answer in {PATIENCE} s to: {line}")
+            raise Differs(f"{self.name} gave no answer in {PATIENCE} s to: {readable(line)}")
         answer = self.process.stdout.readline()
         if not answer.endswith(b"\n"):
-            raise Differs(f"{self.name} ended at line {self.lines}: {line}")
-        return answer[:-1].decode("ascii", "replace")
+            raise Differs(f"{self.name} ended at line {self.lines}: {readable(line)}")
+        return answer[:-1]
 
     def ok(self, *fields):
         """The fields after `ok`."""
@@ -136,6 +166,11 @@ class Bench:
 
 
 # ---- octets ------------------------------------------------------------------------------------
+
+def readable(line):
+    """A line as it is shown: tabs as two blanks, other octets than ASCII escaped."""
+    return line.decode("ascii", "backslashreplace").replace("\t", "  ")
+
 
 def text(field):
     """A field as it is sent: octets in hex, all else as it is."""
