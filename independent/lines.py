@@ -1,11 +1,7 @@
-"""What every program that talks in lines has: fields, refusals, scripts, stored files."""
+"""What every program that talks in lines has: fields, refusals, answers, scripts."""
 
 import random
 import re
-import sys
-from pathlib import Path
-
-CRATES = Path(__file__).resolve().parent.parent / "crates"
 
 WORDS = ("room", "long", "short", "form", "security", "nokey", "top", "stale", "forged", "full",
          "command", "protection", "absent", "argument")  # document 01's numbers 1 to 14
@@ -21,6 +17,16 @@ class Refused(Exception):
     def __init__(self, number):
         super().__init__(number)
         self.number = number
+
+
+class Wrong(Exception):
+    """Something is not as it must be; what, in words."""
+
+
+def sure(holds, what, *seen):
+    """Stops with words where something that must hold doesn't."""
+    if not holds:
+        raise Wrong(": ".join(map(str, (what, *seen))))
 
 
 def refuse_if(condition, number):
@@ -110,6 +116,12 @@ def written(given):
     return "".join(f"{n}\t{text}\n" for n, text in given.items()).encode("ascii")
 
 
+def as_expected(n, line, expected, given):
+    """Stops where a line's answer is not the one that its author expects."""
+    if given != expected:
+        raise Wrong(f"line {n}, {line!r}: expected {expected!r}, our answer is {given!r}")
+
+
 class Chance:
     """Chosen at random, but the same in every run: only `random()` is promised to stay."""
 
@@ -149,36 +161,3 @@ class Script:
     def text(self):
         """The script, its last line without a line feed."""
         return b"\n".join(self.lines)
-
-
-def made(script, desk):
-    """Input and output of a program, every expected answer compared first."""
-    given = answers(desk, script.text())
-    for n, expected in script.expected.items():
-        if given.get(n) != expected:
-            sys.exit(f"line {n}, {script.lines[n - 1]!r}: expected {expected!r}, "
-                     f"our answer is {given.get(n)!r}")
-    return {"stdin": script.text(), "stdout": written(given)}
-
-
-def check(name, files):
-    """Compares the files stored for a program; the exit code."""
-    code = 0
-    for file, octets in files.items():
-        path = CRATES / name / file
-        if not path.is_file():
-            print(f"crates/{name}/{file} is missing")
-            code = 1
-        elif path.read_bytes() != octets:
-            print(f"crates/{name}/{file} differs from what independent/{name}.py makes")
-            code = 1
-    return code
-
-
-def write(name, files):
-    """Writes the files stored for a program; the exit code."""
-    (CRATES / name).mkdir(parents=True, exist_ok=True)
-    for file, octets in files.items():
-        (CRATES / name / file).write_bytes(octets)
-        print(f"crates/{name}/{file}: {len(lines_of(octets))} lines")
-    return 0

@@ -2,17 +2,11 @@
 
 import random
 import struct
-import sys
 
-sys.dont_write_bytecode = True
-
-import aes
-import ccm
-import mmo
-import opening
-import tables
-from lines import flip, ok, run_of
-from vectors import Desk, annexc, fips197, rfc3610
+from .lines import Wrong, flip, ok, run_of
+from .model import aes, ccm, mmo, opening, tables
+from .published import annexc, fips197, rfc3610
+from .vectors.desk import Desk
 
 BLOCKS, CASES, FRAMES, SEED = 1500, 1000, 300, 3610
 
@@ -20,11 +14,11 @@ BLOCKS, CASES, FRAMES, SEED = 1500, 1000, 300, 3610
 def same(what, ours, theirs):
     """Stops at the first difference."""
     if ours != theirs:
-        sys.exit(f"{what}: ours {ours!r}, expected {theirs!r}")
+        raise Wrong(f"{what}: ours {ours!r}, expected {theirs!r}")
 
 
 def published():
-    """Every row of data/; the number of comparisons."""
+    """Every row of published/; the number of comparisons."""
     for name, key, block, enciphered in fips197():
         same(f"FIPS 197 {name}", aes.encipher(key, block), enciphered)
     for name, M, key, nonce, a, m, sealed in rfc3610():
@@ -173,15 +167,14 @@ def frames_against_package():
     return f"{FRAMES} frames of each layer sealed and opened beside it"
 
 
-def main():
-    """All comparisons, then one closing line."""
+def run(arguments):
+    """All comparisons, then one closing line; the exit code, or None for words that it doesn't know."""
+    if arguments:
+        return None
     count = published()
     recovered_keys()
     bench_cases()
     tagless()
     print(f"selfcheck: {count} published comparisons hold; {against_package()}; "
           f"{frames_against_package()}")
-
-
-if __name__ == "__main__":
-    main()
+    return 0

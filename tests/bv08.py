@@ -8,7 +8,7 @@ each gets a network key, asks for a link key of its own, proves it and uses it.
 
     python3 tests/bv08.py           the repository's target/bin/bench
     python3 tests/bv08.py -v        the same, with every line sent and answered
-    python3 tests/bv08.py --bench 'python3 independent/bench.py --answer'
+    python3 tests/bv08.py --bench 'python3 -m independent bench --answer'
 
 Every command is written on one board, sealed there, handed over as octets, and opened and read on
 the other, which learns keys and addresses from what it read and from nowhere else. Frames between
@@ -22,10 +22,11 @@ The last line is `all steps as asked`, and the exit code 0; at the first differe
 
 import argparse
 import sys
+from pathlib import Path
 
-sys.dont_write_bytecode = True
+sys.path.insert(0, str(Path(__file__).resolve().parent.parent))
 
-from benches import BENCH_HELP, Bench, Differs, bench_words, flipped, least, text
+from bench_pipe import BENCH_HELP, Bench, Differs, bench_words, flipped, in_words, least, text
 
 SHARED_KEY = b"ZigBeeAlliance09"
 NETWORK_KEY = bytes.fromhex("abcdef01234567890000000000000000")
@@ -355,4 +356,4 @@ def main():
 
 
 if __name__ == "__main__":
-    sys.exit(main())
+    sys.exit(in_words(main))

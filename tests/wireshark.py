@@ -3,7 +3,7 @@
 
     python3 tests/wireshark.py                      the repository's target/bin/bench
     python3 tests/wireshark.py --keep frames.pcap   the same, and keeps the capture to look at
-    python3 tests/wireshark.py --bench 'python3 independent/bench.py --answer'
+    python3 tests/wireshark.py --bench 'python3 -m independent bench --answer'
 
 It needs Wireshark's command `tshark` (Debian: apt-get install -y tshark), and is no part of the
 gate. A board seals network frames of many headers and lengths, and APS frames inside of network
@@ -32,9 +32,10 @@ import tempfile
 from dataclasses import dataclass, field
 from pathlib import Path
 
-sys.dont_write_bytecode = True
+sys.path.insert(0, str(Path(__file__).resolve().parent.parent))
 
-from benches import BENCH_HELP, Bench, Differs, bench_words, flipped, give_up, least, text
+from bench_pipe import (BENCH_HELP, Bench, Differs, bench_words, flipped, give_up, in_words, least,
+                        text)
 
 NETWORK_KEYS = (bytes.fromhex("abcdef01234567890000000000000000"),
                 bytes.fromhex("00112233445566778899aabbccddeeff"))
@@ -451,4 +452,4 @@ def main():
 
 
 if __name__ == "__main__":
-    sys.exit(main())
+    sys.exit(in_words(main))

@@ -1,0 +1,105 @@
+"""Puts the script of `bench` together, and checks that it shows what it must.
+
+Document 01, the table of refusals and their orders: which line can be refused with which number.
+"""
+
+from ..lines import sure
+from ..model.commands import KINDS
+from .aps import add_aps
+from .commands import add_commands
+from .keys import add_keys
+from .line_forms import add_bad_lines, add_desk, add_fine, add_last, add_without_board
+from .network import add_network
+from .play import add_play
+from .tools import Bench
+
+REFUSALS = {  # every number that a line can be refused with, by document 01
+    "board": {14},
+    "lend": set(),
+    "network": {1, 14},
+    "switch": {13},
+    "link": {10, 14},
+    "unlink": {13},
+    "forget": {1, 13, 14},
+    "open": {1, 2, 3, 4, 5, 6, 7, 8, 9, 10},
+    "openaps": {1, 2, 3, 4, 5, 6, 7, 8, 9},
+    "seal": {1, 2, 3, 4, 6, 7},
+    "sealaps": {1, 2, 3, 4, 6, 7, 14},
+    "read": {2, 3, 4, 11, 12, 14},
+    "tlv": set(),
+    "write": {1, 2, 11},
+    "hash": set(),       # 257 octets are bad before they are too long
+    "keyedhash": {2},
+    "state": set(),
+    "heard": set(),
+    "links": set(),
+}
+LEAST_LINES, MOST_LINES = 5000, 8000
+
+
+def outcomes(bench):
+    """Every word with every answer it got, a refusal told by its number and what follows it."""
+    found = set()
+    for line, answer in bench.given:
+        word = line.split(b"\t")[0].decode("latin-1")
+        kind, *rest = answer.split("\t")
+        found.add((word, kind, *((int(rest[0]), *rest[2:]) if kind == "refused" else ())))
+    return found
+
+
+def wanted():
+    """The outcomes that the script must show, and no others of a good word."""
+    for word, numbers in REFUSALS.items():
+        yield word, "ok"
+        yield word, "bad"
+        for number in numbers - {8}:
+            yield word, "refused", number
+    for word in ("open", "openaps"):
+        yield word, "refused", 8, "genuine"
+        yield word, "refused", 8, "altered"
+
+
+def check_outcomes(bench):
+    """Every outcome that document 01 allows is met, and none that it doesn't."""
+    found = {outcome for outcome in outcomes(bench) if outcome[0] in REFUSALS}
+    sure(found == set(wanted()), "outcomes missed, or met and not allowed",
+         sorted(map(str, found ^ set(wanted()))))
+
+
+def check_commands(bench):
+    """Every command is read, refused with 11 and with 12, and written."""
+    given = [(line.split(b"\t"), answer.split("\t")) for line, answer in bench.given]
+    reads = [(fields[2][4:], answer) for fields, answer in given
+             if fields[0] == b"read" and answer[0] != "bad"]
+    writes = [(fields[2], answer) for fields, answer in given
+              if fields[0] == b"write" and answer[0] != "bad"]
+    for kind in KINDS:
+        start, word = kind.start.hex().encode("ascii"), kind.word.encode("ascii")
+        found = [answer[:2] for octets, answer in reads if octets.startswith(start)]
+        for wanted_answer in (["ok", kind.word], ["refused", "11"], ["refused", "12"]):
+            sure(wanted_answer in found, "an answer is not shown", kind.word, wanted_answer)
+        sure(any(written == word and answer[0] == "ok" for written, answer in writes),
+             "a command is not written", kind.word)
+
+
+def check_shares(bench):
+    """At least a third of the frames open, also without those that are not secured."""
+    opens = [answer for line, answer in bench.given
+             if line.startswith((b"open\t", b"openaps\t")) and answer != "bad"]
+    accepted = [answer for answer in opens if answer.startswith("ok")]
+    secured = [answer for answer in accepted if answer.split("\t")[2] != "none"]
+    sure(3 * len(secured) >= len(opens) - (len(accepted) - len(secured)),
+         "secured frames that open are too few", len(secured))
+    sure(3 * len(accepted) >= len(opens), "frames that open are too few", len(accepted))
+    sure(LEAST_LINES <= len(bench.lines) <= MOST_LINES, "lines of the script", len(bench.lines))
+
+
+def make_script():
+    """The whole script."""
+    bench = Bench()
+    for add in (add_without_board, add_desk, add_bad_lines, add_fine, add_keys, add_network,
+                add_aps, add_commands, add_play, add_last):
+        add(bench)
+    for check in (check_outcomes, check_commands, check_shares):
+        check(bench)
+    return bench

@@ -1,0 +1,190 @@
+"""The desk of the program `margins`: what a call leaves in what it was lent, refusals too.
+
+The language of `margins`. Every line is answered on the same board, made anew for it, with the same
+lists and an output of octets EE.
+"""
+
+from dataclasses import dataclass, field
+
+from .. import lines
+from ..bench.desk import ADDRESS, OCTET, protection, protection_field
+from ..model import commands, mmo, opening, tables
+
+FRAME = lines.hex_field(0, 512)
+SIZE = lines.decimal_field(256)
+LINK_KEYS = bytes(range(0x20, 0x30)), bytes(range(0x30, 0x40))
+
+
+# ---- what is lent ------------------------------------------------------------------------------
+
+def made_board():
+    """The board of every line."""
+    board = tables.made_board(2)
+    board.outgoing, board.aps, board.active = 7, 255, 0
+    board.slots = [tables.Slot(True, 5, bytes(range(0x00, 0x10))),
+                   tables.Slot(True, 6, bytes(range(0x10, 0x20)))]
+    board.links[0] = tables.Link(True, 0xA1, LINK_KEYS[0], 100)
+    board.links[1] = tables.Link(True, 0xA2, LINK_KEYS[1], 0)
+    return board
+
+
+def made_addresses():
+    """The list of senders: row 0, and all rows of slot 1."""
+    return [0xB1] + [0] * 31 + [0xC00 + row for row in tables.rows_of(1)]
+
+
+def made_floors():
+    """The list of floors."""
+    return [100] + [0] * 31 + [1] * 32
+
+
+@dataclass
+class Lent:
+    """An output, and the board and lists made anew."""
+    output: bytes
+    board: tables.Board = field(default_factory=made_board)
+    addresses: list = field(default_factory=made_addresses)
+    floors: list = field(default_factory=made_floors)
+
+    def put(self, frame):
+        """Lays a frame over the start of the output; its length."""
+        self.output = frame + self.output[len(frame):]
+        return len(frame)
+
+
+# ---- requests, as fields behind `ok` -----------------------------------------------------------
+
+def open_network(lent, frame):
+    """Opens a network frame."""
+    sender, found, plain = opening.open_network(lent.board, lent.addresses, lent.floors,
+                                                len(lent.output), frame)
+    return lent.put(plain), lines.address(sender), protection(found)
+
+
+def open_aps(lent, caller, frame):
+    """Opens an APS frame."""
+    sender, found, plain = opening.open_aps(lent.board, len(lent.output), caller, frame)
+    return lent.put(plain), lines.address(sender), protection(found)
+
+
+def seal_network(lent, frame):
+    """Seals a network frame."""
+    return [lent.put(opening.seal_network(lent.board, len(lent.output), frame))]
+
+
+def seal_aps(lent, partner, identifier, frame):
+    """Seals an APS frame."""
+    return [lent.put(opening.seal_aps(lent.board, len(lent.output), partner, identifier, frame))]
+
+
+def writer(word, acknowledged):
+    """The request that writes a command of that word."""
+    def write_command(lent, *values):
+        command = commands.Command(commands.BY_WORD[word], values)
+        return [lent.put(commands.write(lent.board, len(lent.output), acknowledged, command))]
+    return write_command
+
+
+# ---- what they leave, as fields behind the output ----------------------------------------------
+
+def changed_rows(lent):
+    """Each row that is not as it was."""
+    before = zip(made_addresses(), made_floors())
+    for row, now in enumerate(zip(lent.addresses, lent.floors)):
+        if now != next(before):
+            yield from (row, lines.address(now[0]), now[1])
+
+
+def link_floors(lent):
+    """The floors of link entries 0 and 1."""
+    return lent.board.links[0].floor, lent.board.links[1].floor
+
+
+def outgoing(lent):
+    """The outgoing counter."""
+    return [lent.board.outgoing]
+
+
+def aps_counter(lent):
+    """The APS counter."""
+    return [lent.board.aps]
+
+
+# ---- lines -------------------------------------------------------------------------------------
+
+def shown(*fields):
+    """Fields, each after a tab; octets are written as hex."""
+    return "".join("\t" + (f.hex() if isinstance(f, bytes) else str(f)) for f in fields)
+
+
+def on_board(request, left):
+    """The action that answers a request and shows the output and what else it left."""
+    def act(size, *arguments):
+        lent = Lent(b"\xee" * size)
+        try:
+            verdict = lines.ok(*request(lent, *arguments))
+        except lines.Refused as refusal:
+            verdict = lines.refused(refusal.number)
+        return verdict + shown(lent.output, *left(lent))
+    return act
+
+
+def hashed(digest):
+    """The action that answers with a hash, zeros where it is refused."""
+    def act(data):
+        try:
+            return lines.ok(digest(data))
+        except mmo.TooLong:
+            return lines.refused(2) + shown(bytes(16))
+    return act
+
+
+def asked(question):
+    """The action that answers a question about a command, with nothing where it is refused."""
+    def act(under, *arguments):
+        *named, frame = arguments
+        try:
+            return lines.ok(question(commands.read(under, frame), *named))
+        except lines.Refused:
+            return lines.ok(b"")
+    return act
+
+
+def part(name):
+    """The action that answers with a part of a command."""
+    return (protection_field, FRAME), asked(lambda command: command.part(name))
+
+
+WORDS = {
+    b"open": ((SIZE, FRAME), on_board(open_network, changed_rows)),
+    b"openaps": ((SIZE, ADDRESS, FRAME), on_board(open_aps, link_floors)),
+    b"seal": ((SIZE, FRAME), on_board(seal_network, outgoing)),
+    b"sealaps": ((SIZE, ADDRESS, OCTET, FRAME), on_board(seal_aps, outgoing)),
+    b"remove": ((SIZE, ADDRESS), on_board(writer("remove", True), aps_counter)),
+    b"tunnel": ((SIZE, ADDRESS, FRAME), on_board(writer("tunnel", False), aps_counter)),
+    b"down": ((SIZE, FRAME), on_board(writer("down", True), aps_counter)),
+    b"hash": ((FRAME,), hashed(mmo.digest)),
+    b"keyedhash": ((FRAME,), hashed(lambda data: mmo.keyed(LINK_KEYS[0], data))),
+    b"key": part(commands.KEY),
+    b"digest": part(commands.HASH),
+    b"inner": part(commands.INNER),
+    b"tlvs": part(commands.TLVS),
+    b"value": ((protection_field, OCTET, FRAME),
+               asked(lambda command, tag: command.value_of(tag))),
+}
+
+
+class Desk:
+    """Answers lines; none leaves anything to the next."""
+
+    def answer(self, line):
+        """What follows the line's number."""
+        word, *fields = line.split(b"\t")
+        if word not in WORDS or len(fields) != len(WORDS[word][0]):
+            return "bad"
+        readers, action = WORDS[word]
+        try:
+            arguments = [read(text) for read, text in zip(readers, fields)]
+        except lines.Bad:
+            return "bad"
+        return action(*arguments)

@@ -1,0 +1,151 @@
+"""The reader and the writer of APS commands, their parts and TLVs.
+
+Document 01, "The commands" and the table of refusals; the fields' order is that of source document
+000, 4.4.11.1 to 4.4.11.10; DECISIONS 14 to 18.
+"""
+
+from dataclasses import dataclass
+
+from . import headers
+from ..lines import refuse_if
+
+MOST = 108
+ROOM = 108
+LEAST_INNER = 20
+PROTECTIONS = (None, 0, 2, 3)
+
+OCTET, SHORT, ADDRESS = 1, 2, 8                    # numbers, by their octets
+KEY, HASH, INNER, TLVS = "key", "hash", "inner", "tlvs"
+SIXTEEN = (KEY, HASH)
+
+
+@dataclass(frozen=True)
+class Kind:
+    """A kind of command."""
+    word: str
+    start: bytes         # identifier, and the type octet where the type makes the kind
+    fields: tuple        # in the order of the wire
+    protections: tuple
+    relay: bool = False
+
+
+KINDS = (
+    Kind("transport1", b"\x05\x01", (KEY, OCTET, ADDRESS, ADDRESS), (2,)),
+    Kind("transport4", b"\x05\x04", (KEY, ADDRESS, ADDRESS, TLVS), (3,)),
+    Kind("transport2", b"\x05\x02", (KEY, ADDRESS, OCTET, TLVS), (3,)),
+    Kind("transport3", b"\x05\x03", (KEY, ADDRESS, OCTET, TLVS), (3,)),
+    Kind("update", b"\x06", (ADDRESS, SHORT, OCTET, TLVS), (0,)),
+    Kind("remove", b"\x07", (ADDRESS,), (0,)),
+    Kind("request2", b"\x08\x02", (ADDRESS,), (0,)),
+    Kind("request4", b"\x08\x04", (), (0,)),
+    Kind("switchkey", b"\x09", (OCTET,), (None, 0)),
+    Kind("tunnel", b"\x0e", (ADDRESS, INNER), (None,)),
+    Kind("verify", b"\x0f", (OCTET, ADDRESS, HASH), (None,)),
+    Kind("confirm", b"\x10", (OCTET, OCTET, ADDRESS), (0,)),
+    Kind("down", b"\x11", (TLVS,), (None, 0), True),
+    Kind("up", b"\x12", (TLVS,), (None, 0), True),
+)
+BY_WORD = {kind.word: kind for kind in KINDS}
+
+
+# ---- TLVs --------------------------------------------------------------------------------------
+
+def tlvs_of(octets):
+    """The TLVs that fill the octets exactly, as pairs of tag and value, or None."""
+    found = []
+    while octets:
+        if len(octets) < 2 or len(octets) < 2 + octets[1]:
+            return None
+        end = 2 + octets[1]
+        found.append((octets[0], octets[2:end]))
+        octets = octets[end:]
+    return found
+
+
+def relays(tlvs):
+    """Whether at least one TLV has tag 0 and 8 or more octets."""
+    return any(tag == 0 and len(value) >= 8 for tag, value in tlvs)
+
+
+def fits(kind, field, value):
+    """Whether the octets of a key, hash, inner frame or of all TLVs are as in the list."""
+    if field in SIXTEEN:
+        return len(value) == 16
+    if field == INNER:
+        return len(value) >= LEAST_INNER
+    tlvs = tlvs_of(value)
+    return tlvs is not None and (relays(tlvs) or not kind.relay)
+
+
+# ---- reading -----------------------------------------------------------------------------------
+
+@dataclass(frozen=True)
+class Command:
+    """A command: its kind and the values of its fields, numbers or octets."""
+    kind: Kind
+    values: tuple
+
+    def part(self, field):
+        """The octets of a key, hash, inner frame or of all TLVs; empty if there are none."""
+        return dict(zip(self.kind.fields, self.values)).get(field, b"")
+
+    def value_of(self, tag):
+        """The value of the first TLV of a tag; empty if there is none."""
+        return next((value for t, value in tlvs_of(self.part(TLVS)) if t == tag), b"")
+
+
+def split(kind, octets):
+    """The values of a kind's fields that the octets fill exactly, or None."""
+    values = []
+    for field in kind.fields:
+        if isinstance(field, int):
+            size = field
+        elif field in SIXTEEN:
+            size = 16
+        else:
+            size = len(octets)
+        value, octets = octets[:size], octets[size:]
+        if len(value) < size or not isinstance(field, int) and not fits(kind, field, value):
+            return None
+        values.append(headers.number(value) if isinstance(field, int) else value)
+    return None if octets else tuple(values)
+
+
+def command_of(octets):
+    """The command that the octets from the identifier on are, or 11."""
+    for kind in KINDS:
+        if octets.startswith(kind.start):
+            values = split(kind, octets[len(kind.start):])
+            refuse_if(values is None, 11)
+            return Command(kind, values)
+    return refuse_if(True, 11)
+
+
+def read(protection, frame):
+    """The command in a plain APS frame that came under a protection (None: none)."""
+    refuse_if(protection not in PROTECTIONS, 14)
+    refuse_if(len(frame) > MOST, 2)
+    control, header = headers.aps_control(frame)
+    headers.need(frame, header)
+    refuse_if(control & 3 != 1 or control & headers.APS_SECURITY, 4)
+    command = command_of(frame[header:])
+    refuse_if(protection not in command.kind.protections, 12)
+    return command
+
+
+# ---- writing -----------------------------------------------------------------------------------
+
+def write(board, room, acknowledged, command):
+    """The frame of a command; stamps the APS counter and raises it."""
+    refuse_if(room < ROOM, 1)
+    octets = command.kind.start
+    for field, value in zip(command.kind.fields, command.values):
+        if isinstance(field, int):
+            octets += value.to_bytes(field, "little")
+        else:
+            refuse_if(not fits(command.kind, field, value), 11)
+            octets += value
+    frame = bytes([0x41 if acknowledged else 0x01, board.aps]) + octets
+    refuse_if(len(frame) > MOST, 2)
+    board.aps = (board.aps + 1) % 256
+    return frame

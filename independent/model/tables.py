@@ -1,0 +1,145 @@
+"""The board's state and the requests that change keys.
+
+Document 01, "The state and the lists" and "Requests that change keys"; DECISIONS 9 to 12.
+"""
+
+from dataclasses import dataclass, field
+
+from ..lines import Refused, refuse_if
+
+ROWS = 64        # rows of a list, half of them for each slot
+SLOT_ROWS = 32
+SLOTS = 2
+LINKS = 8
+ALL_ONES = 2**64 - 1
+NO_KEY = bytes(16)
+
+
+@dataclass
+class Slot:
+    """A network slot."""
+    present: bool = False
+    number: int = 0
+    key: bytes = NO_KEY
+
+
+@dataclass
+class Link:
+    """A link entry."""
+    present: bool = False
+    partner: int = 0
+    key: bytes = NO_KEY
+    floor: int = 0
+
+
+@dataclass
+class Board:
+    """The state; the heard senders stand in lists of their own."""
+    own: int
+    outgoing: int = 0
+    aps: int = 0
+    slots: list = field(default_factory=lambda: [Slot() for _ in range(SLOTS)])
+    active: int | None = None
+    links: list = field(default_factory=lambda: [Link() for _ in range(LINKS)])
+
+
+def nobody(address):
+    """Whether no device can have the address: zero or all ones."""
+    return address in (0, ALL_ONES)
+
+
+def made_board(own):
+    """A fresh board, or 14."""
+    refuse_if(nobody(own), 14)
+    return Board(own)
+
+
+def judge_lists(addresses, floors):
+    """1 if a list is not of 64 rows."""
+    refuse_if(len(addresses) != ROWS or len(floors) != ROWS, 1)
+
+
+def lowest(places, fits):
+    """The lowest of the places that fits, or None."""
+    for place in places:
+        if fits(place):
+            return place
+    return None
+
+
+# ---- network keys ------------------------------------------------------------------------------
+
+def rows_of(slot):
+    """The rows that belong to a slot."""
+    return range(SLOT_ROWS * slot, SLOT_ROWS * (slot + 1))
+
+
+def install(board, addresses, floors, slot, number, key):
+    """Install network key."""
+    judge_lists(addresses, floors)
+    refuse_if(slot >= SLOTS, 14)
+    other = board.slots[1 - slot]
+    refuse_if(other.present and other.number == number, 14)
+    wanted = Slot(True, number, key)
+    if board.slots[slot] == wanted:
+        return
+    board.slots[slot] = wanted
+    for row in rows_of(slot):
+        addresses[row] = floors[row] = 0
+
+
+def slot_numbered(board, number):
+    """The lowest present slot with that sequence number, or None."""
+    return lowest(range(SLOTS),
+                  lambda s: board.slots[s].present and board.slots[s].number == number)
+
+
+def switch(board, number):
+    """Switch: makes a slot the active one."""
+    slot = slot_numbered(board, number)
+    refuse_if(slot is None, 13)
+    board.active = slot
+
+
+# ---- heard senders -----------------------------------------------------------------------------
+
+def row_of(addresses, slot, sender):
+    """The lowest row of the slot that has the sender's address, or None; 0 finds a free row."""
+    return lowest(rows_of(slot), lambda row: addresses[row] == sender)
+
+
+def forget(addresses, floors, slot, sender):
+    """Forget sender of a slot."""
+    judge_lists(addresses, floors)
+    refuse_if(slot >= SLOTS, 14)
+    row = None if sender == 0 else row_of(addresses, slot, sender)
+    refuse_if(row is None, 13)
+    addresses[row] = floors[row] = 0
+
+
+# ---- link keys ---------------------------------------------------------------------------------
+
+def entry_of(board, partner):
+    """The lowest present entry of the partner, or None."""
+    return lowest(range(LINKS),
+                  lambda e: board.links[e].present and board.links[e].partner == partner)
+
+
+def add_link(board, partner, key):
+    """Add link key."""
+    refuse_if(nobody(partner), 14)
+    entry = entry_of(board, partner)
+    if entry is None:
+        entry = lowest(range(LINKS), lambda e: not board.links[e].present)
+        if entry is None:
+            raise Refused(10)
+    elif board.links[entry].key == key:
+        return
+    board.links[entry] = Link(True, partner, key, 0)
+
+
+def remove_link(board, partner):
+    """Remove link key: its entry is zeroed."""
+    entry = None if partner == 0 else entry_of(board, partner)
+    refuse_if(entry is None, 13)
+    board.links[entry] = Link()
