@@ -1,7 +1,7 @@
 """The script of `bench`: APS frames, opened and sealed.
 
 Document 01, "Layout of an APS frame", "The auxiliary header and the nonce", "Opening and sealing"
-and "Bench cases"; readings, parts 1 and 3, where a bench line can show the point.
+and "Bench cases"; docs/DECISIONS.md, where a bench line can show the point.
 """
 
 from ..lines import flip, ok, run_of, sure

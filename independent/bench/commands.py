@@ -1,7 +1,7 @@
 """The script of `bench`: APS commands read and written, TLVs, the APS counter.
 
-Document 01, "The commands"; readings, part 1, points 14 to 18, part 2, points 7, 8 and 12, part 3,
-points 8, 10 and 12. Layouts and protections are written out here once more, apart from model/commands.py.
+Document 01, "The commands", with the points that docs/DECISIONS.md settles there and for the bench
+language. Layouts and protections are written out here once more, apart from model/commands.py.
 """
 
 from ..lines import Chance, address, ok, run_of, sure

@@ -1,7 +1,7 @@
 """The script of `bench`: the requests that change keys.
 
-Document 01, "The state and the lists" and "Requests that change keys"; readings, part 1, points 8
-and 11, part 3, points 4 to 6 and 11, and the slip of rows that are freed.
+Document 01, "The state and the lists" and "Requests that change keys", with the points that
+docs/DECISIONS.md settles there, and the slip of rows that are freed.
 """
 
 from ..lines import address, flip, ok

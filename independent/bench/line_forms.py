@@ -1,6 +1,6 @@
 """The script of `bench`: the desk itself, lines that are bad, and how lines end.
 
-The bench language, "Lines"; the points of readings, part 2, and of DECISIONS, "The bench
+The bench language, "Lines"; the points of docs/DECISIONS.md, "The bench
 language", are named in the script's comments.
 """
 

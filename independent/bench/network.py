@@ -1,7 +1,7 @@
 """The script of `bench`: network frames, opened and sealed.
 
 Document 01, "Layout of a network frame", "Opening and sealing", "Bench cases" and "Slips we have
-seen on benches"; readings, parts 1 and 3, where a bench line can show the point.
+seen on benches"; docs/DECISIONS.md, where a bench line can show the point.
 """
 
 from ..lines import flip, ok, run_of, sure
