@@ -1,7 +1,8 @@
 """The script of `bench`: APS commands read and written, TLVs, the APS counter.
 
 Document 01, "The commands"; readings, part 1, points 14 to 18, part 2, points 7, 8 and 12, part 3,
-points 8, 10 and 12. Layouts and protections are written out here once more, apart from model/commands.py.
+points 8, 10 and 12. Layouts and protections are written out here once more, apart from
+model/commands.py.
 """
 
 from ..lines import Chance, address, ok, run_of, sure
