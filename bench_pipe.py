@@ -14,6 +14,9 @@ import subprocess
 import sys
 from pathlib import Path
 
+if sys.version_info < (3, 10):
+    sys.exit("Python 3.10 or later is needed")
+
 ROOT = Path(__file__).resolve().parent
 PROGRAM = ROOT / "target" / "bin" / "bench"
 PATIENCE = 60  # seconds until an answer that doesn't come is given up

@@ -1,14 +1,15 @@
 """The one entry of the independent program.
 
-python3 -m independent selfcheck                compares the model with published vectors and another program
-python3 -m independent PROGRAM                  writes crates/PROGRAM/stdin and crates/PROGRAM/stdout
-python3 -m independent PROGRAM --into FOLDER    writes stdin and stdout there
-python3 -m independent PROGRAM --check          exits 1 if a stored file differs from what would be written
-python3 -m independent PROGRAM --answer         answers the script on standard input, line by line
-python3 -m independent lesson                   writes examples/first-lesson.answers
-python3 -m independent lesson --check           exits 1 if that differs from what would be written
+python3 -m independent selfcheck              the model against published vectors and a package
+python3 -m independent PROGRAM                writes crates/PROGRAM/stdin and crates/PROGRAM/stdout
+python3 -m independent PROGRAM --into DIR     writes stdin and stdout there
+python3 -m independent PROGRAM --check        exits 1 if a stored file differs from what is made
+python3 -m independent PROGRAM --answer       answers the script on standard input, line by line
+python3 -m independent lesson                 writes examples/first-lesson.answers
+python3 -m independent lesson --check         exits 1 if that differs from what is made
 
-PROGRAM is vectors, trials, bench or margins. From another folder: python3 PATH/independent and the same words.
+PROGRAM is vectors, trials, bench or margins. This is for the repository's folder; from any other,
+python3 PATH/independent and the same words.
 """
 
 import importlib

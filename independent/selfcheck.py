@@ -168,7 +168,7 @@ def frames_against_package():
 
 
 def run(arguments):
-    """All comparisons, then one closing line; the exit code, or None for words that it doesn't know."""
+    """All comparisons, then one closing line; the exit code, or None where words are given."""
     if arguments:
         return None
     count = published()

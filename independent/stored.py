@@ -1,4 +1,4 @@
-"""The files stored for a program, stdin and stdout, and the four ways to run one that talks in lines."""
+"""The files stored for a program, stdin and stdout, and the four ways to run its subject."""
 
 import sys
 from pathlib import Path
@@ -56,7 +56,7 @@ def answer(desk, source, sink):
 
 
 def run(name, subject, arguments):
-    """Writes, checks or answers for a program; the exit code, or None where the words are none of these."""
+    """Writes, checks or answers for a program; the exit code, or None for other words."""
     folder = ROOT / "crates" / name
     match arguments:
         case []:

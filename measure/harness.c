@@ -1,6 +1,6 @@
 /* Sealing and opening 22 authenticated and 90 payload octets with a tag of 4, and the keyed hash of one octet: `cipher`
    beside the two Rust programs of reference.rs. Sixteen jobs are taken in turns, each with its own key, nonce and octets. */
-#include "bench.h"
+#include "cases.h"
 #include <stdio.h>
 #include <stdlib.h>
 #include <string.h>
@@ -103,10 +103,12 @@ static void hash_by_vector(hash_fn *hash, const char *who) { /* Annex C.6.1 */
 }
 static void setup(void) {
     /* the first four and last eight octets of the first job, as Python's `cryptography` has them (AESCCM) */
-    static const uint8_t head[4] = { 0x14, 0xcb, 0xcc, 0x8c }, tail[8] = { 0xdb, 0x48, 0xad, 0xfa, 0x7e, 0x29, 0xe2, 0x66 };
+    static const uint8_t head[4] = { 0x14, 0xcb, 0xcc, 0x8c };
+    static const uint8_t tail[8] = { 0xdb, 0x48, 0xad, 0xfa, 0x7e, 0x29, 0xe2, 0x66 };
     uint8_t *o = (uint8_t *)jobs;
     for (size_t i = 0; i < sizeof jobs; i++) o[i] = (uint8_t)(i * i / 7 + 31 * i + 5);
-    for (struct job *j = jobs; j < jobs + JOBS; j++) must(mul_seal(M, j->key, j->nonce, j->a, A, j->p, P, j->c, C) == C, "mul");
+    for (struct job *j = jobs; j < jobs + JOBS; j++)
+        must(mul_seal(M, j->key, j->nonce, j->a, A, j->p, P, j->c, C) == C, "mul");
     must(!memcmp(jobs[0].c, head, 4) && !memcmp(jobs[0].c + C - 8, tail, 8), "AESCCM");
     frames_by(our_seal, our_open, "cipher");
     frames_by(mul_seal, mul_open, "mul");
@@ -116,5 +118,5 @@ static void setup(void) {
     hash_by_vector(tab_keyed_hash, "tab");
 }
 
-BENCH_MAIN(setup(), ENTRY(seal_mul), ENTRY(open_mul), ENTRY(keyed_hash_mul), ENTRY(seal_tab), ENTRY(open_tab),
-           ENTRY(keyed_hash_tab))
+MEASURED(setup(), ENTRY(seal_mul), ENTRY(open_mul), ENTRY(keyed_hash_mul), ENTRY(seal_tab), ENTRY(open_tab),
+         ENTRY(keyed_hash_tab))

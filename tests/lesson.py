@@ -5,8 +5,8 @@
     python3 tests/lesson.py --bench 'python3 -m independent bench --answer'
 
 examples/first-lesson.bench has the lines, examples/first-lesson.answers the answers, which
-`python3 -m independent lesson` makes. The last line is `N answers as stored`, and the exit code 0; at
-the first difference it is 1.
+`python3 -m independent lesson` makes. The last line is `N answers as stored`, and the exit code 0;
+at the first difference it is 1.
 """
 
 import argparse

@@ -257,7 +257,7 @@ def add_sealing(bench):
     bench.group("01: sealing 91 octets gives 108; 92 gives 2")
     plain = DATA_HEADER + run_of(83)
     frame = aps_frame(key(3), 0, OWN, counter, run_of(83), header=DATA_HEADER)
-    sure((len(plain), len(frame)) == (91, 108), "octets of the longest frame", len(plain), len(frame))
+    sure((len(plain), len(frame)) == (91, 108), "octets of the longest", len(plain), len(frame))
     bench.seal_aps(OWN, 0, plain, ok(frame))
     bench.seal_aps(OWN, 0, plain + b"\x00", no(2))
     hear(bench, frame, 0, plain, OWN)

@@ -313,7 +313,7 @@ def add_sealing(bench):
     bench.group("01: sealing 98 octets gives 116; 99 gives 2")
     plain = NETWORK_HEADER + run_of(90)
     frame = network_frame(key(1), 0, OWN, counter, run_of(90))
-    sure((len(plain), len(frame)) == (98, 116), "octets of the longest frame", len(plain), len(frame))
+    sure((len(plain), len(frame)) == (98, 116), "octets of the longest", len(plain), len(frame))
     bench.seal(plain, ok(frame))
     bench.seal(plain + b"\x00", no(2))
     hear(bench, frame, plain, OWN)

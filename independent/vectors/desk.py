@@ -1,4 +1,4 @@
-"""The desk of the program `vectors`: the cipher and the hashes behind the refusals of document 01."""
+"""The desk of the program `vectors`: cipher and hashes behind the refusals of document 01."""
 
 from .. import lines
 from ..lines import refuse_if

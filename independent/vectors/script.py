@@ -1,4 +1,4 @@
-"""The script of the program `vectors`: every published value, and the edges of lengths and refusals."""
+"""The script of the program `vectors`: published values, and the edges of lengths and refusals."""
 
 from ..lines import Script, flip, ok, refused, run_of
 from ..model import ccm, mmo

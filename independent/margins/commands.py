@@ -1,0 +1,156 @@
+"""The script of `margins`: commands written, their parts, and the values of TLVs.
+
+Document 01, "The commands".
+"""
+
+from ..bench.tools import put
+from ..lines import ok, run_of, sure
+from .tools import APS_COUNTER, Done
+
+DEVICE, TRUST = bytes(range(0x80, 0x88)), bytes(range(0x88, 0x90))
+DEVICE_FIELD = "8786858483828180"
+KEY, HASH = bytes(range(0x60, 0x70)), bytes(range(0x70, 0x80))
+INNER = b"\x21\x1e\x20" + bytes(range(0xC0, 0xD1))
+FIRST, SECOND = bytes(range(0x90, 0x9D)), bytes(range(0xA0, 0xAC))
+RELAYED = bytes(range(0xB0, 0xB9))
+TLVS = b"\x1a\x0d" + FIRST + b"\x1b\x0c" + SECOND
+RELAY = b"\x00\x09" + RELAYED
+COMMANDS = {  # protections, octets from the identifier on, parts
+    "transport1": ((2,), b"\x05\x01" + KEY + b"\x55" + DEVICE + TRUST, {"key": KEY}),
+    "transport4": ((3,), b"\x05\x04" + KEY + DEVICE + TRUST + TLVS, {"key": KEY, "tlvs": TLVS}),
+    "transport2": ((3,), b"\x05\x02" + KEY + DEVICE + b"\x56" + TLVS, {"key": KEY, "tlvs": TLVS}),
+    "transport3": ((3,), b"\x05\x03" + KEY + DEVICE + b"\x56" + TLVS, {"key": KEY, "tlvs": TLVS}),
+    "update": ((0,), b"\x06" + DEVICE + b"\x57\x58\x59" + TLVS, {"tlvs": TLVS}),
+    "remove": ((0,), b"\x07" + DEVICE, {}),
+    "request2": ((0,), b"\x08\x02" + DEVICE, {}),
+    "request4": ((0,), b"\x08\x04", {}),
+    "switchkey": (("none", 0), b"\x09\x55", {}),
+    "tunnel": (("none",), b"\x0e" + DEVICE + INNER, {"inner": INNER}),
+    "verify": (("none",), b"\x0f\x56" + DEVICE + HASH, {"digest": HASH}),
+    "confirm": ((0,), b"\x10\x57\x58" + DEVICE, {}),
+    "down": (("none", 0), b"\x11" + TLVS + RELAY, {"tlvs": TLVS + RELAY}),
+    "up": (("none", 0), b"\x12" + RELAY + TLVS, {"tlvs": RELAY + TLVS}),
+}
+PARTS = ("key", "digest", "inner", "tlvs")
+FRONT = b"\x41\x3e"
+
+
+def add_writing(script):
+    """Commands written: the counter 255 is stamped, and 0 comes after it."""
+    def done(control, octets):
+        return Done(bytes([control, APS_COUNTER]) + octets, (), (0,))
+
+    script.group("remove: after 255 comes 0; DECISIONS 14: addresses are not judged")
+    script.everywhere("remove", DEVICE_FIELD, gives=done(0x41, b"\x07" + DEVICE))
+    for octet in (0, 0xFF):
+        script.once("remove", f"{octet:02x}" * 8, gives=done(0x41, b"\x07" + bytes([octet]) * 8))
+    script.group("tunnel: inner frames of 20 to 97 octets, without acknowledgement")
+    front = b"\x0e" + DEVICE
+    script.everywhere("tunnel", DEVICE_FIELD, INNER, gives=done(0x01, front + INNER))
+    for room, length in ((115, 95), (116, 96), (108, 97), (256, 97)):
+        inner = INNER + run_of(length - 20)
+        script.ask(room, "tunnel", DEVICE_FIELD, inner, gives=done(0x01, front + inner))
+    script.group("tunnel, 11: under 20 octets; 2: over 108 with the header (DECISIONS 18), so an "
+                 "inner frame of 98")
+    script.mostly("tunnel", DEVICE_FIELD, INNER[:19], gives=11)
+    script.once("tunnel", DEVICE_FIELD, b"", gives=11)
+    script.mostly("tunnel", DEVICE_FIELD, INNER + run_of(78), gives=2)
+    for length in (99, 512):
+        script.once("tunnel", DEVICE_FIELD, INNER + run_of(length - 20), gives=2)
+    add_down(script, done)
+
+
+def add_down(script, done):
+    """Relay down written."""
+    script.group("down: TLVs of 10 to 105 octets; DECISIONS 15: any TLV of tag 0 may be the one")
+    script.everywhere("down", TLVS + RELAY, gives=done(0x41, b"\x11" + TLVS + RELAY))
+    for tlvs in (b"\x00\x08relaying", b"\x00\x00" + RELAY, b"\x00\x67" + run_of(103)):
+        script.once("down", tlvs, gives=done(0x41, b"\x11" + tlvs))
+    script.ask(108, "down", RELAY + b"\x01\x5c" + run_of(92),
+               gives=done(0x41, b"\x11" + RELAY + b"\x01\x5c" + run_of(92)))
+    script.group("down, 11: TLVs that don't fill their place, and Relay's rule; before 2")
+    script.mostly("down", TLVS + RELAY + b"\x00", gives=11)
+    for tlvs in (b"", RELAY + b"\x01\x01", RELAY[:-1], b"\x00\x07" + run_of(7), TLVS,
+                 b"\x00\x04abcd\x00\x04efgh", b"\x01\xc8" + run_of(200), run_of(512)):
+        script.once("down", tlvs, gives=11)
+    script.group("down, 2: over 108 octets, so TLVs of 106")
+    script.mostly("down", b"\x00\x68" + run_of(104), gives=2)
+    for tlvs in (RELAY + b"\x01\x5d" + run_of(93), 2 * (b"\x00\xfe" + run_of(254))):
+        script.once("down", tlvs, gives=2)
+
+
+def lacked(parts, turn):
+    """One of the parts that a command lacks, in turn; two if it has none."""
+    others = [part for part in PARTS if part not in parts]
+    return [others[(turn + i) % len(others)] for i in range(1 if parts else 2)]
+
+
+def add_parts(script):
+    """Parts of every command, in frames of all-different octets."""
+    script.group("parts of every command, under every protection")
+    for word, (protections, body, parts) in COMMANDS.items():
+        sure(len(set(FRONT + body)) == len(FRONT + body), "an octet stands twice in", word)
+        for part, octets in parts.items():
+            for under in ("none", 0, 2, 3):
+                script.add(part, under, FRONT + body,
+                           expect=ok(octets if under in protections else b""))
+    script.group("DECISIONS 17: parts that a command lacks, in turn")
+    for turn, (protections, body, parts) in enumerate(COMMANDS.values()):
+        for part in lacked(parts, turn):
+            script.add(part, protections[0], FRONT + body, expect=ok(b""))
+    script.group("no TLVs; frames of 108 octets; another control")
+    for part, under, body, octets in (
+            ("tlvs", 3, b"\x05\x02" + KEY + DEVICE + b"\x56", b""),
+            ("key", 3, b"\x05\x02" + KEY + DEVICE + b"\x56\x01\x4d" + run_of(77), KEY),
+            ("tlvs", 0, b"\x12\x00\x67" + run_of(103), b"\x00\x67" + run_of(103)),
+            ("inner", "none", b"\x0e" + DEVICE + INNER + run_of(77), INNER + run_of(77))):
+        script.add(part, under, FRONT + body, expect=ok(octets))
+    script.add("digest", "none", b"\x09\x3e" + COMMANDS["verify"][1], expect=ok(HASH))
+    add_refused_parts(script)
+
+
+def add_refused_parts(script):
+    """Parts of frames that the reader refuses are empty."""
+    frames = {word: FRONT + body for word, (_, body, _) in COMMANDS.items()}
+    script.group("parts where the reader refuses: 14, 2, 3, 4, 11")
+    for part, under, frame in (
+            ("key", 1, frames["transport1"]), ("digest", 4, frames["verify"]),
+            ("inner", 255, frames["tunnel"]), ("tlvs", 1, frames["down"]),
+            ("inner", "none", frames["tunnel"] + run_of(78)), ("tlvs", 0, run_of(512)),
+            ("key", 2, b""), ("tlvs", 0, FRONT),
+            ("key", 2, put(frames["transport1"], 0, 0x61)),
+            ("inner", "none", put(frames["tunnel"], 0, 0x40)),
+            ("key", 2, frames["transport1"] + b"\x00"), ("key", 3, put(frames["transport4"], 3, 5)),
+            ("digest", "none", frames["verify"][:-1]), ("inner", "none", frames["tunnel"][:-1]),
+            ("tlvs", 3, frames["transport3"] + b"\x1c"), ("tlvs", "none", FRONT + b"\x11" + TLVS)):
+        script.add(part, under, frame, expect=ok(b""))
+
+
+def add_values(script):
+    """The values of TLVs."""
+    script.group("value: every command that has TLVs: one after the other, then tag 0 of Relay")
+    for protections, body, parts in COMMANDS.values():
+        if "tlvs" in parts:
+            for tag, value in ((0x1A, FIRST), (0x1B, SECOND)):
+                script.add("value", protections[-1], tag, FRONT + body, expect=ok(value))
+    for word in ("down", "up"):
+        script.add("value", "none", 0, FRONT + COMMANDS[word][1], expect=ok(RELAYED))
+    script.group("value: first of several, empty, tags 0 and 255, missing; the first of tag 0, "
+                 "however short (DECISIONS 15); the longest")
+    front = FRONT + b"\x06" + DEVICE + b"\x57\x58\x59"
+    tlvs = b"\x07\x02ab\x08\x00\x07\x01c\x00\x03def\x00\x01g\xff\x02hi\xff\x00"
+    for tag, value in ((7, b"ab"), (8, b""), (0, b"def"), (255, b"hi"), (1, b"")):
+        script.add("value", 0, tag, front + tlvs, expect=ok(value))
+    script.add("value", "none", 0, FRONT + b"\x11\x00\x01x" + RELAY, expect=ok(b"x"))
+    script.add("value", 0, 0, FRONT + b"\x12\x00\x00" + RELAY, expect=ok(b""))
+    script.add("value", 0, 0, FRONT + b"\x12\x00\x67" + run_of(103), expect=ok(run_of(103)))
+    script.group("value: ill-formed behind a good TLV; over 108; wrong protections; no TLVs")
+    for under, tag, frame in (
+            (0, 7, front + tlvs + b"\x07"), (0, 7, front + tlvs + b"\x07\x01"),
+            (0, 7, front + b"\x07\x05abcd"), (0, 7, front + b"\x07\x02ab" + bytes(92)),
+            ("none", 7, front + tlvs), (1, 7, front + tlvs), (2, 7, front + tlvs),
+            (3, 7, front + tlvs), (255, 7, front + tlvs), (0, 7, put(front + tlvs, 0, 0x61)),
+            ("none", 0, FRONT + b"\x11\x00\x07" + run_of(7)), (0, 0, front), (0, 255, run_of(512)),
+            ("none", 0x21, FRONT + COMMANDS["tunnel"][1]),
+            (2, 0x60, FRONT + COMMANDS["transport1"][1])):
+        script.add("value", under, tag, frame, expect=ok(b""))

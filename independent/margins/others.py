@@ -1,0 +1,70 @@
+"""The script of `margins`: frames and commands by chance, and bad and odd lines."""
+
+from ..bench.aps import HEADERS
+from ..bench.network import ODD_HEADERS
+from ..bench.tools import NETWORK_HEADER
+from ..lines import Chance, address, flip, ok, refused, run_of
+from .opening import aps, heard, heard_aps, network
+from .tools import A1, A2, B1, ROOMS, STRANGER, laid
+
+
+# ---- by chance ---------------------------------------------------------------------------------
+
+def add_chance(script):
+    """Genuine frames and forgeries of any length, with any output."""
+    script.group("by chance: genuine frames, some with a bit of payload or tag changed")
+    chance = Chance(3001)
+    for _ in range(8):
+        sender, row, number = chance.pick(((B1, 0, 5), (STRANGER, 1, 5), (0xC2A, 42, 6)))
+        header, counter = chance.pick((NETWORK_HEADER, *ODD_HEADERS)), 100 + chance.below(10**9)
+        payload = run_of(chance.below(60), chance.below(256))
+        frame = network(sender, counter, payload, number, header=header)
+        forged = chance.below(3) == 0
+        if forged:
+            frame = flip(frame, 8 * (len(header) + 14) + chance.below(8 * len(payload) + 32))
+        script.ask(chance.pick(ROOMS[4:]), "open", frame,
+                   gives=9 if forged else heard(header + payload, sender, counter, row))
+    for _ in range(8):
+        sender, identifier, carried = chance.pick((A1, A2)), chance.pick((0, 2, 3)), chance.below(2)
+        header, counter = chance.pick(HEADERS), 100 + chance.below(10**9)
+        payload = run_of(chance.below(80), chance.below(256))
+        frame = aps(sender, counter, payload, identifier, header=header, carried=bool(carried))
+        forged = chance.below(3) == 0
+        if forged:
+            front = len(header) + (13 if carried else 5)
+            frame = flip(frame, 8 * front + chance.below(8 * len(payload) + 32))
+        script.ask(chance.pick(ROOMS[4:]), "openaps", address(sender), frame,
+                   gives=9 if forged else heard_aps(header + payload, sender, counter, identifier))
+
+
+# ---- bad and odd lines -------------------------------------------------------------------------
+
+def add_bad(script):
+    """Lines that are not the language's."""
+    script.group("bad: a field of each word, malformed or beyond its range")
+    device, frame = address(A1), "413e"
+    for line in (("open", 257, frame), ("openaps", 116, device[1:], frame), ("seal", "0116", frame),
+                 ("sealaps", 116, device, 256, frame), ("remove", 116, device + "00"),
+                 ("tunnel", 116, device, bytes(513)), ("down", "", frame), ("hash", bytes(513)),
+                 ("keyedhash", "4g"), ("key", 256, frame), ("digest", "None", frame),
+                 ("inner", "01", frame), ("tlvs", "none", "413"), ("value", "none", "-1", frame)):
+        script.add(*line, expect="bad")
+    script.group("bad: a field less or more, other words, blanks")
+    for line in ("open\t116", "remove\t116\t00000000000000a1\t", "hash", "value\tnone\t413e",
+                 "Open\t116\t413e", "up\t116\t", "hash\t00 ", "board"):
+        script.raw(line, "bad")
+
+
+def add_fine(script):
+    """Lines that only look bad, and the last one."""
+    script.group("fine: empty lines, comments, either case of hex, empty octets")
+    for line in ("", "#", "#\thash", ""):
+        script.raw(line)
+    script.raw("hash\tC0", ok("ae3a102a28d43ee0d4a09e22788b206c"))
+    script.raw("remove\t108\t00000000000000A1",
+               ok(11, laid(108, bytes.fromhex("41ff07a100000000000000")), 0))
+    script.raw("open\t0\t", refused(1) + "\t")
+    script.raw("openaps\t116\t00000000000000a1\t", refused(3) + "\t" + "ee" * 116 + "\t100\t0")
+    script.raw("value\tnone\t0\t", "ok\t")
+    script.group("the last line has no line feed")
+    script.raw("key\tnone\t", "ok\t")
