@@ -1,0 +1,4 @@
+pub mod Lines
+pub mod Reading
+pub mod Passing
+pub mod Answer

@@ -1,0 +1,20 @@
+// Lines in and lines out: the line that is being read, and the answer that is being written.
+//
+// No function here asks anything of its caller, and each says by an equation what it answers. Reading
+// the input and writing the output are the program's: no contract says what they do.
+mod answer;
+mod reading;
+
+pub use answer::Answer;
+pub use answer::Whole;
+pub use answer::address;
+pub use answer::decimal;
+pub use answer::first;
+pub use answer::hex;
+pub use answer::whole_line;
+pub use answer::word;
+pub use reading::Line;
+pub use reading::Stop;
+pub use reading::fresh_line;
+pub use reading::is_silent;
+pub use reading::next_line;
