@@ -1,11 +1,6 @@
 // APS commands, read and written.
-use crate::answer::Answer;
-use crate::answer::address;
-use crate::answer::decimal;
 use crate::answer::done;
-use crate::answer::hex;
 use crate::answer::refused;
-use crate::answer::word;
 use crate::desk::Moved;
 use crate::desk::room_of;
 use crate::forms::command_form;
@@ -18,6 +13,11 @@ use commands::Command;
 use commands::Reading;
 use commands::Requested;
 use commands::Transported;
+use lines::Answer;
+use lines::address;
+use lines::decimal;
+use lines::hex;
+use lines::word;
 
 // A command by its word's number, and its numbers, each at its field's place in a `write` line.
 struct Spelt {

@@ -2,11 +2,11 @@
 ghost use mathlib.Core.Path.{_≡_};
 ghost use Prim.Native.Nat.{_≤_};
 ghost use lib.ListN.{length, take};
-use crate::answer::Answer;
-use crate::answer::first;
 use crate::answer::told;
 use board::After;
 use board::Board;
+use lines::Answer;
+use lines::first;
 
 // The stored lists.
 pub struct Lists {

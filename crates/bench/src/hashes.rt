@@ -1,11 +1,11 @@
 // The hash and the keyed hash, which need no board.
-use crate::answer::Answer;
 use crate::answer::done;
-use crate::answer::hex;
 use crate::answer::refused;
 use crate::read::Frame;
 use answers::Refusal;
 use cipher::Hashed;
+use lines::Answer;
+use lines::hex;
 
 pub(crate) fn hash(f: Frame) -> Answer {
     let o = f.octets;

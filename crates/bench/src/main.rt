@@ -8,7 +8,7 @@ mod command_lines;
 mod desk;
 mod forms;
 mod hashes;
-mod lines;
+mod input;
 mod lists;
 mod making;
 mod opening;
@@ -20,5 +20,5 @@ mod show;
 fn main() {
     let mut chunk = [0u8; 4096];
     let mut line = [0u8; 2048];
-    lines::run(&mut chunk, &mut line);
+    input::run(&mut chunk, &mut line);
 }

@@ -1,5 +1,4 @@
 // The board made, and what is lent.
-use crate::answer::Answer;
 use crate::answer::done;
 use crate::answer::told;
 use crate::desk::Desk;
@@ -8,6 +7,7 @@ use crate::desk::Reply;
 use crate::desk::fresh_lists;
 use answers::Outcome;
 use board::Board;
+use lines::Answer;
 
 // A board, whether it was made, and what is answered.
 struct Start {

@@ -1,11 +1,6 @@
 // Frames opened, at both layers.
-use crate::answer::Answer;
-use crate::answer::address;
-use crate::answer::decimal;
 use crate::answer::done;
-use crate::answer::hex;
 use crate::answer::refused;
-use crate::answer::word;
 use crate::desk::Held;
 use crate::desk::Lent;
 use crate::desk::Lists;
@@ -19,6 +14,11 @@ use answers::Opened;
 use answers::Refusal;
 use aps::After;
 use board::Board;
+use lines::Answer;
+use lines::address;
+use lines::decimal;
+use lines::hex;
+use lines::word;
 
 pub(crate) fn open(f: Frame, b: Board, lists: Lists, lent: Lent) -> Held {
     let mut addrs = lists.addrs;

@@ -1,5 +1,4 @@
 // Which request a line is.
-use crate::answer::Answer;
 use crate::command_lines;
 use crate::desk::Desk;
 use crate::desk::Held;
@@ -24,6 +23,7 @@ use crate::sealing;
 use crate::show;
 use board::After;
 use board::Board;
+use lines::Answer;
 
 pub(crate) fn reply_to(long: bool, line: &[u8], desk: Desk) -> Reply {
     let w = request_number(line);

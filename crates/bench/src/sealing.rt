@@ -1,7 +1,5 @@
 // Frames sealed, at both layers.
-use crate::answer::Answer;
 use crate::answer::done;
-use crate::answer::hex;
 use crate::answer::refused;
 use crate::desk::Moved;
 use crate::desk::room_of;
@@ -9,6 +7,8 @@ use crate::read::Frame;
 use answers::Sealed;
 use board::Board;
 use board::Sent;
+use lines::Answer;
+use lines::hex;
 
 pub(crate) fn seal(f: Frame, b: Board, lent: usize) -> Moved {
     let o = f.octets;

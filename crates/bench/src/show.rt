@@ -1,13 +1,13 @@
 // What a board holds.
-use crate::answer::Answer;
-use crate::answer::address;
-use crate::answer::decimal;
 use crate::answer::done;
-use crate::answer::word;
 use crate::desk::Lists;
 use board::Active;
 use board::Board;
 use board::Link;
+use lines::Answer;
+use lines::address;
+use lines::decimal;
+use lines::word;
 
 pub(crate) fn state(b: Board) -> Answer {
     let outgoing = decimal(done(), b.outgoing as u64);

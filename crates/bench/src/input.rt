@@ -3,16 +3,15 @@ use crate::answer::say;
 use crate::desk::Desk;
 use crate::desk::fresh_desk;
 use crate::requests::reply_to;
+use lines::Line;
 
 // Where the reading stands: what is left of the chunk that was read last, the number of the line,
-// how many octets of it are there, whether it has more than there is room for, whether its line
-// feed was met, and whether the input goes on.
+// what is there of it, whether its line feed was met, and whether the input goes on.
 pub struct Reader {
     pub from: usize,
     pub to: usize,
     pub number: u64,
-    pub at: usize,
-    pub long: bool,
+    pub line: Line,
     pub ended: bool,
     pub open: bool,
 }
@@ -23,8 +22,7 @@ pub(crate) fn run(chunk: &mut [u8; 4096], line: &mut [u8; 2048]) {
         from: 0,
         to: 0,
         number: 0,
-        at: 0,
-        long: false,
+        line: lines::fresh_line(),
         ended: false,
         open: true,
     };
@@ -57,22 +55,30 @@ fn begun_line(reader: Reader) -> Reader {
         from: reader.from,
         to: reader.to,
         number,
-        at: 0,
-        long: false,
+        line: lines::fresh_line(),
         ended: false,
         open: reader.open,
     }
 }
 
 fn read_on(now: Reader, chunk: &mut [u8; 4096], line: &mut [u8; 2048]) -> Reader {
-    let from = now.from;
-    if from < now.to && from < 4096 {
-        let mut next = now;
-        let more = from + 1;
-        next.from = more;
-        return take_octet(chunk[from], next, line);
+    if now.from < now.to {
+        return take_line(now, chunk, line);
     }
     refill(now, chunk)
+}
+
+// As much of the line as the chunk has. The first octet of a line that is too long is kept: it tells
+// whether the line is answered at all.
+fn take_line(now: Reader, chunk: &[u8], line: &mut [u8]) -> Reader {
+    let before = now.line;
+    let stop = lines::next_line(before, text::front(chunk, now.to), now.from, line);
+    let read = stop.line;
+    let mut next = now;
+    next.from = stop.from;
+    next.line = read;
+    next.ended = stop.ended;
+    next
 }
 
 // One read at a time, of what is there.
@@ -89,39 +95,16 @@ fn refill(now: Reader, chunk: &mut [u8; 4096]) -> Reader {
     next
 }
 
-// The octets of a line that is too long are not kept; the first is, since it tells whether the line
-// is answered at all.
-fn take_octet(c: u8, now: Reader, line: &mut [u8; 2048]) -> Reader {
-    let mut next = now;
-    let at = now.at;
-    if c == b'\n' {
-        next.ended = true;
-    } else if at < 2048 {
-        line[at] = c;
-        let more = at + 1;
-        next.at = more;
-    } else {
-        next.long = true;
-    }
-    next
-}
-
 // Answers a line, and hands on the desk that it leaves. An empty line has no answer, nor has the
 // nothing that follows the last line feed.
 fn answer_line(reader: Reader, line: &[u8], desk: Desk) -> Desk {
-    let ended = text::front(line, reader.at);
-    if is_silent(ended) {
+    let read = reader.line;
+    let ended = text::front(line, read.at);
+    if lines::is_silent(ended) {
         return desk;
     }
-    let reply = reply_to(reader.long, ended, desk);
+    let reply = reply_to(read.long, ended, desk);
     let answer = reply.answer;
     say(reader.number, answer);
     reply.desk
-}
-
-fn is_silent(line: &[u8]) -> bool {
-    if line.len() == 0 {
-        return true;
-    }
-    line[0] == b'#'
 }

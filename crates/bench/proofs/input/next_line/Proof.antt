@@ -1,7 +1,7 @@
 use Prim.{Unit, tt}
 use borrow.Author.Needs.{needs}
-use Rattle.bench.proofs.lines.next_line.Statement.{statement}
-use Rattle.bench.proofs.lines.next_line.Tie as tie
+use Rattle.bench.proofs.input.next_line.Statement.{statement}
+use Rattle.bench.proofs.input.next_line.Tie as tie
 
 abbrev Inv-loop : tie.InvT-loop
 Inv-loop chunk₀ line₀ now₀ turns₀ chunk line now turns = Unit {0}

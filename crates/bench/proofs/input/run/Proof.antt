@@ -1,13 +1,16 @@
 use Prim.{Unit, tt}
 use borrow.Author.Needs.{needs}
-use Rattle.bench.proofs.lines.run.Statement.{statement}
-use Rattle.bench.proofs.lines.run.Tie as tie
+use Rattle.bench.proofs.input.run.Statement.{statement}
+use Rattle.bench.proofs.input.run.Tie as tie
 
 abbrev Inv-loop : tie.InvT-loop
 Inv-loop chunk₀ line₀ reader₀ desk₀ turns₀ chunk line reader desk turns = Unit {0}
 
 abbrev μ-loop : tie.MeasureT-loop
 μ-loop chunk₀ line₀ reader₀ desk₀ turns₀ chunk line reader desk turns = turns
+
+fresh-line-requires : tie.Need-fresh-line-requires Inv-loop μ-loop
+fresh-line-requires c κs = search needs
 
 fresh-desk-requires : tie.Need-fresh-desk-requires Inv-loop μ-loop
 fresh-desk-requires c κs = search needs
@@ -42,6 +45,7 @@ run-spec =
     (tie.spec
     Inv-loop
     μ-loop
+    fresh-line-requires
     fresh-desk-requires
     loop-holds
     next-line-requires
