@@ -3,3 +3,4 @@ pub mod Lists
 pub mod Least
 pub mod Addresses
 pub mod Parts
+pub mod Keys
