@@ -12,9 +12,11 @@ use Rattle.answers.specs.declared.Guard.{Guard}
 use Rattle.answers.specs.declared.Guard.the-variants.{Clear, Under}
 use Rattle.answers.specs.declared.Opened.{Opened}
 use Rattle.answers.specs.declared.Sealed.{Sealed}
-use Rattle.answers.specs.Numbers.{numberOf, Told, done, refused, told, ProtectionTold, clear, under, protectionOf, FrameTold, opened, sealed, turnedDown, toldOpened, toldSealed}
+use Rattle.answers.specs.declared.Written.{Written}
+use Rattle.answers.specs.Numbers.{numberOf, Told, done, refused, told, ProtectionTold, clear, under, protectionOf, FrameTold, opened, sealed, written, turnedDown, toldOpened, toldSealed, toldWritten}
 use Rattle.answers.specs.declared.Opened.the-variants as opens
 use Rattle.answers.specs.declared.Sealed.the-variants as seals
+use Rattle.answers.specs.declared.Written.the-variants as writes
 
 -- 01's table, read by the number; place 0 has none
 table : List Refusal
@@ -70,6 +72,7 @@ guard-one g h e = sym (guard-back g) ∙ ap guardOf e ∙ guard-back h
 openedOf : FrameTold → Opened
 openedOf (opened n a p) = opens.Frame n a (guardOf p)
 openedOf (sealed n) = opens.Refused Room
+openedOf (written n) = opens.Refused Room
 openedOf (turnedDown n) = opens.Refused (refusalOf n)
 
 opened-back : (o : Opened) → openedOf (toldOpened o) ≡ o
@@ -83,6 +86,7 @@ opened-one o p e = sym (opened-back o) ∙ ap openedOf e ∙ opened-back p
 sealedOf : FrameTold → Sealed
 sealedOf (opened n a g) = seals.Refused Room
 sealedOf (sealed n) = seals.Frame n
+sealedOf (written n) = seals.Refused Room
 sealedOf (turnedDown n) = seals.Refused (refusalOf n)
 
 sealed-back : (o : Sealed) → sealedOf (toldSealed o) ≡ o
@@ -92,3 +96,17 @@ sealed-back (seals.Refused r) = ap seals.Refused (refusal-back r)
 
 pub sealed-one : (o p : Sealed) → toldSealed o ≡ toldSealed p → o ≡ p
 sealed-one o p e = sym (sealed-back o) ∙ ap sealedOf e ∙ sealed-back p
+
+writtenOf : FrameTold → Written
+writtenOf (opened n a g) = writes.Refused Room
+writtenOf (sealed n) = writes.Refused Room
+writtenOf (written n) = writes.Frame n
+writtenOf (turnedDown n) = writes.Refused (refusalOf n)
+
+written-back : (o : Written) → writtenOf (toldWritten o) ≡ o
+unfolding writtenOf
+written-back (writes.Frame n) = refl
+written-back (writes.Refused r) = ap writes.Refused (refusal-back r)
+
+pub written-one : (o p : Written) → toldWritten o ≡ toldWritten p → o ≡ p
+written-one o p e = sym (written-back o) ∙ ap writtenOf e ∙ written-back p

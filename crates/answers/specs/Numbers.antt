@@ -9,8 +9,10 @@ use Rattle.answers.specs.declared.Guard.{Guard}
 use Rattle.answers.specs.declared.Guard.the-variants.{Clear, Under}
 use Rattle.answers.specs.declared.Opened.{Opened}
 use Rattle.answers.specs.declared.Sealed.{Sealed}
+use Rattle.answers.specs.declared.Written.{Written}
 use Rattle.answers.specs.declared.Opened.the-variants as opens
 use Rattle.answers.specs.declared.Sealed.the-variants as seals
+use Rattle.answers.specs.declared.Written.the-variants as writes
 
 abbrev pub numberOf : Refusal → ℕ
 numberOf Room = 1
@@ -46,11 +48,12 @@ abbrev pub protectionOf : Guard → ProtectionTold
 protectionOf Clear = clear
 protectionOf (Under k) = under k
 
--- what opening and sealing tell: length, sender and protection of a frame that opened, the length of one that was sealed,
--- or a refusal's number
+-- what opening, sealing and writing tell: length, sender and protection of a frame that opened, the length of one that was
+-- sealed or written, or a refusal's number
 pub data FrameTold : Type 0 where
   opened : ℕ → ℕ → ProtectionTold → FrameTold
   sealed : ℕ → FrameTold
+  written : ℕ → FrameTold
   turnedDown : ℕ → FrameTold
 
 abbrev pub toldOpened : Opened → FrameTold
@@ -60,3 +63,7 @@ toldOpened (opens.Refused r) = turnedDown (numberOf r)
 abbrev pub toldSealed : Sealed → FrameTold
 toldSealed (seals.Frame n) = sealed n
 toldSealed (seals.Refused r) = turnedDown (numberOf r)
+
+abbrev pub toldWritten : Written → FrameTold
+toldWritten (writes.Frame n) = written n
+toldWritten (writes.Refused r) = turnedDown (numberOf r)

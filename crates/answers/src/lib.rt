@@ -44,6 +44,12 @@ pub enum Sealed {
     Refused(Refusal),
 }
 
+// A command frame that was written, with its length.
+pub enum Written {
+    Frame(usize),
+    Refused(Refusal),
+}
+
 // The refusal's number in 01's table.
 pub fn number(r: Refusal) -> u8
     ensures { λ n. ⌜ n ≡ numberOf r ⌝ }
