@@ -9,18 +9,20 @@ use native.Mathlib.Omega.{arith}
 use lib.Dec.{eqb, leb, ltb}
 use lib.ListN.{length}
 use borrow.Author.Tests.{ltb-false, eqb-true, eqb-false, not-true, not-false}
+use Rattle.settings.specs.Settings.{Settings}
 use Rattle.octets.proofs.Choices.{choose}
-use Rattle.octets.specs.Choice.{both}
+use Rattle.octets.specs.Choice.{if_then_else_, both}
 use Rattle.octets.specs.Lists.{at}
 use Rattle.frames.specs.declared.Secured.{Secured}
 use Rattle.frames.specs.declared.Layer.{Layer}
 use Rattle.frames.specs.declared.Layer.the-variants.{Network, Aps}
-use Rattle.frames.specs.Security.{tagOctets, identifierOf, extendedOf, auxLength, senderOf}
+use Rattle.frames.specs.Security.{identifierOf, extendedOf, auxLength, senderOf}
 use Rattle.frames.specs.Network.{networkBase, networkHeader, networkKeyed}
 use Rattle.frames.specs.Aps.{apsType, delivery, ackFormat, apsHeader, apsKeyed}
-use Rattle.frames.specs.Reading.{Reading, refused, plain, secured, announced, suits, readSecured, readPlain}
+use Rattle.frames.specs.Layers.{controlOf, headerOf, suits, givenTo}
+use Rattle.frames.specs.Reading.{Reading, refused, plain, secured, announced, readSecured, readPlain, reading, unread, headed, readingPlain}
 use Rattle.frames.proofs.Controls.{extended-most, aux-numbered, aux-unnumbered}
-use Rattle.frames.proofs.Layers.{leastHeader, controlOf, headerOf, givenTo, reading, readingPlain, opening, sealing, shortIn, formIn, bitIn, headerIn, reading-is, readingPlain-is}
+use Rattle.frames.proofs.Layers.{leastHeader, opening, sealing, shortIn, formIn, bitIn, headerIn, reading-is, readingPlain-is}
 use Rattle.octets.specs.Addresses.{noAddress}
 
 refused-secured : {A : Type 0} (n : ℕ) (s : Secured) → refused n ≡ secured s → A
@@ -28,6 +30,9 @@ refused-secured n s e = let z : _≡_ {A = ℕ} 0 1 = cc in absurd (omega arith)
 
 refused-plain : {A : Type 0} (n h : ℕ) → refused n ≡ plain h → A
 refused-plain n h e = let z : _≡_ {A = ℕ} 0 1 = cc in absurd (omega arith)
+
+unread-headed : {A : Type 0} (n h : ℕ) → unread n ≡ headed h → A
+unread-headed n h e = let z : _≡_ {A = ℕ} 0 1 = cc in absurd (omega arith)
 
 plain-secured : {A : Type 0} (h : ℕ) (s : Secured) → plain h ≡ secured s → A
 plain-secured h s e = let z : _≡_ {A = ℕ} 0 1 = cc in absurd (omega arith)
@@ -66,31 +71,31 @@ header-least Aps f c =
 
 -- ---- behind a header of h octets
 
-module _ (l : Layer) (f : List ℕ) (h a : ℕ) where
+module _ (z : Settings) (l : Layer) (f : List ℕ) (h a : ℕ) where
   record Behind (s : Secured) : Type 0 where
     pub suited : suits l (at f h) ≡ true
-    pub whole : h + auxLength (at f h) + tagOctets ≤ length f
+    pub whole : h + auxLength (at f h) + z .tag ≤ length f
     pub someone : noAddress (senderOf f h a) ≡ false
     pub fields : s ≡ announced f h a
 
   -- what holds of each way out holds of reading
   ways : (P : Reading → Type 0) → P (refused 3) → P (refused 5)
-      → (suits l (at f h) ≡ true → h + auxLength (at f h) + tagOctets ≤ length f → noAddress (senderOf f h a) ≡ false → P (secured (announced f h a)))
-      → P (readSecured l f h a)
+      → (suits l (at f h) ≡ true → h + auxLength (at f h) + z .tag ≤ length f → noAddress (senderOf f h a) ≡ false → P (secured (announced f h a)))
+      → P (readSecured z l f h a)
   unfolding readSecured
   ways P p q r =
       choose P (leb (length f) h) _ _ (λ _. p)
       λ _. choose P (not (suits l (at f h))) _ _ (λ _. q)
-      λ x. choose P (ltb (length f) (h + auxLength (at f h) + tagOctets)) _ _ (λ _. p)
+      λ x. choose P (ltb (length f) (h + auxLength (at f h) + z .tag)) _ _ (λ _. p)
       λ y. choose P (noAddress (senderOf f h a)) _ _ (λ _. q)
-      λ z. r (not-false _ x) (ltb-false _ _ y) z
+      λ w. r (not-false _ x) (ltb-false _ _ y) w
 
-  behind : (s : Secured) → readSecured l f h a ≡ secured s → Behind s
+  behind : (s : Secured) → readSecured z l f h a ≡ secured s → Behind s
   behind s =
       ways (λ r. r ≡ secured s → Behind s) (refused-secured 3 s) (refused-secured 5 s)
-      (λ x y z e. record { suited = x; whole = y; someone = z; fields = cc })
+      (λ x y w e. record { suited = x; whole = y; someone = w; fields = cc })
 
-  secured-not : (n : ℕ) → readSecured l f h a ≡ plain n → ⊥
+  secured-not : (n : ℕ) → readSecured z l f h a ≡ plain n → ⊥
   secured-not n =
       ways (λ r. r ≡ plain n → ⊥) (refused-plain 3 n) (refused-plain 5 n)
       (λ _ _ _ e. plain-secured n (announced f h a) (sym e))
@@ -105,17 +110,21 @@ module _ (f : List ℕ) (h : ℕ) where
   plain-behind n =
       choose (λ r. r ≡ plain n → (n ≡ h) × (h ≤ length f)) (ltb (length f) h) _ _ (λ _ e. refused-plain 3 n e) (λ t e. (cc, ltb-false _ _ t))
 
+  headed-behind : (n : ℕ) → (if ltb (length f) h then unread 3 else headed h) ≡ headed n → (n ≡ h) × (h ≤ length f)
+  headed-behind n =
+      choose (λ r. r ≡ headed n → (n ≡ h) × (h ≤ length f)) (ltb (length f) h) _ _ (λ _ e. unread-headed 3 n e) (λ t e. (cc, ltb-false _ _ t))
+
 -- ---- the whole frame
 
 -- a frame of layer l that was read as secured and announces s; a is the caller's sender address
-pub record SecuredFrame (l : Layer) (f : List ℕ) (a : ℕ) (s : Secured) : Type 0 where
+pub record SecuredFrame (z : Settings) (l : Layer) (f : List ℕ) (a : ℕ) (s : Secured) : Type 0 where
   pub formed : formIn l f ≡ true
   pub marked : bitIn l f ≡ true
   pub suited : suits l (s .control) ≡ true
   pub head : s .header ≡ headerIn l f
   pub least : leastHeader l ≤ s .header
   pub auxed : Auxed l (s .aux)
-  pub whole : s .header + s .aux + tagOctets ≤ length f
+  pub whole : s .header + s .aux + z .tag ≤ length f
   pub someone : noAddress (s .sender) ≡ false
   pub fields : s ≡ announced f (s .header) (givenTo l a)
 
@@ -127,12 +136,13 @@ pub record PlainFrame (l : Layer) (f : List ℕ) (h : ℕ) : Type 0 where
   pub least : leastHeader l ≤ h
   pub within : h ≤ length f
 
-pub secured-frame : (l : Layer) (f : List ℕ) (a : ℕ) (s : Secured) → reading l f a ≡ secured s → SecuredFrame l f a s
+pub secured-frame : (z : Settings) (l : Layer) (f : List ℕ) (a : ℕ) (s : Secured) → reading z l f a ≡ secured s
+    → SecuredFrame z l f a s
 unfolding announced
-secured-frame l f a s e = go (shortIn l f) (formIn l f) (bitIn l f) refl refl (sym (reading-is l f a) ∙ e)
+secured-frame z l f a s e = go (shortIn l f) (formIn l f) (bitIn l f) refl refl (sym (reading-is z l f a) ∙ e)
   where
-    made : formIn l f ≡ true → bitIn l f ≡ true → Behind l f (headerIn l f) (givenTo l a) s
-        → SecuredFrame l f a (announced f (headerIn l f) (givenTo l a))
+    made : formIn l f ≡ true → bitIn l f ≡ true → Behind z l f (headerIn l f) (givenTo l a) s
+        → SecuredFrame z l f a (announced f (headerIn l f) (givenTo l a))
     made x y b =
         record {
           formed = x;
@@ -146,19 +156,18 @@ secured-frame l f a s e = go (shortIn l f) (formIn l f) (bitIn l f) refl refl (s
           fields = refl;
         }
 
-    go : (p q u : Bool) → formIn l f ≡ q → bitIn l f ≡ u → opening p q u l f (headerIn l f) (givenTo l a) ≡ secured s
-        → SecuredFrame l f a s
+    go : (p q u : Bool) → formIn l f ≡ q → bitIn l f ≡ u → opening z p q u l f (headerIn l f) (givenTo l a) ≡ secured s
+        → SecuredFrame z l f a s
     go true q u x y e = refused-secured 3 s e
     go false false u x y e = refused-secured 4 s e
     go false true true x y e =
-        let b = behind l f (headerIn l f) (givenTo l a) s e in
-        subst (SecuredFrame l f a) (sym (b .fields)) (made x y b)
+        let b = behind z l f (headerIn l f) (givenTo l a) s e in
+        subst (SecuredFrame z l f a) (sym (b .fields)) (made x y b)
     go false true false x y e = absurd (plain-not f (headerIn l f) s e)
 
 module _ (l : Layer) (f : List ℕ) (h : ℕ) where
-  unsecured : formIn l f ≡ true → bitIn l f ≡ false → readPlain f (headerIn l f) ≡ plain h → PlainFrame l f h
-  unsecured x y e =
-      let b = plain-behind f (headerIn l f) h e in
+  unsecured : formIn l f ≡ true → bitIn l f ≡ false → (h ≡ headerIn l f) × (headerIn l f ≤ length f) → PlainFrame l f h
+  unsecured x y b =
       record {
         formed = x;
         unmarked = y;
@@ -167,22 +176,22 @@ module _ (l : Layer) (f : List ℕ) (h : ℕ) where
         within = omega (arith, b .0, b .1);
       }
 
-  pub plain-frame : (a : ℕ) → reading l f a ≡ plain h → PlainFrame l f h
-  plain-frame a e = go (shortIn l f) (formIn l f) (bitIn l f) refl refl (sym (reading-is l f a) ∙ e)
+  pub plain-frame : (z : Settings) (a : ℕ) → reading z l f a ≡ plain h → PlainFrame l f h
+  plain-frame z a e = go (shortIn l f) (formIn l f) (bitIn l f) refl refl (sym (reading-is z l f a) ∙ e)
     where
-      go : (p q u : Bool) → formIn l f ≡ q → bitIn l f ≡ u → opening p q u l f (headerIn l f) (givenTo l a) ≡ plain h
+      go : (p q u : Bool) → formIn l f ≡ q → bitIn l f ≡ u → opening z p q u l f (headerIn l f) (givenTo l a) ≡ plain h
           → PlainFrame l f h
       go true q u x y e = refused-plain 3 h e
       go false false u x y e = refused-plain 4 h e
-      go false true true x y e = absurd (secured-not l f (headerIn l f) (givenTo l a) h e)
-      go false true false x y e = unsecured x y e
+      go false true true x y e = absurd (secured-not z l f (headerIn l f) (givenTo l a) h e)
+      go false true false x y e = unsecured x y (plain-behind f (headerIn l f) h e)
 
   -- as sealing reads it
-  pub plain-to-seal : readingPlain l f ≡ plain h → PlainFrame l f h
+  pub plain-to-seal : readingPlain l f ≡ headed h → PlainFrame l f h
   plain-to-seal e = go (shortIn l f) (formIn l f) (bitIn l f) refl refl (sym (readingPlain-is l f) ∙ e)
     where
-      go : (p q u : Bool) → formIn l f ≡ q → bitIn l f ≡ u → sealing p q u f (headerIn l f) ≡ plain h → PlainFrame l f h
-      go true q u x y e = refused-plain 3 h e
-      go false false u x y e = refused-plain 4 h e
-      go false true true x y e = refused-plain 4 h e
-      go false true false x y e = unsecured x y e
+      go : (p q u : Bool) → formIn l f ≡ q → bitIn l f ≡ u → sealing p q u f (headerIn l f) ≡ headed h → PlainFrame l f h
+      go true q u x y e = unread-headed 3 h e
+      go false false u x y e = unread-headed 4 h e
+      go false true true x y e = unread-headed 4 h e
+      go false true false x y e = unsecured x y (headed-behind f (headerIn l f) h e)

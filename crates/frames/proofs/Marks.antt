@@ -11,6 +11,7 @@ use lib.Dec.{eqb, ltb}
 use lib.ListN.{length, take, set, length-append, length-set, List·getD-append}
 use lib.Seq.{length-take-le, getD-set-same, getD-set-other, getD-take, set-set, set-getD, take-at}
 use borrow.Author.Tests.{eq-eqb, eqb-false, lt-ltb, le-ltb, ltb-true}
+use Rattle.settings.specs.Settings.{Settings}
 use Rattle.octets.proofs.Numbers.{number-two}
 use Rattle.octets.specs.Choice.{if_then_else_}
 use Rattle.octets.specs.Least.{numberAt}
@@ -19,9 +20,10 @@ use Rattle.frames.specs.declared.Layer.{Layer}
 use Rattle.frames.specs.declared.Layer.the-variants.{Network, Aps}
 use Rattle.frames.specs.Network.{networkControl, networkForm, networkSecured, networkBase, networkHeader}
 use Rattle.frames.specs.Aps.{apsType, delivery, ackFormat, apsForm, apsSecured, apsHeader}
-use Rattle.frames.specs.Making.{bitPlace, bitValue, cleared, raised, plainHeader, securedHeader}
-use Rattle.frames.specs.Reading.{readSecured}
-use Rattle.frames.proofs.Layers.{controlOctets, leastHeader, controlOf, formOf, securedBit, headerOf, givenTo, headerIn, reading, opening, reading-is}
+use Rattle.frames.specs.Making.{bitPlace, bitValue, cleared, marked, plainHeader, securedHeader}
+use Rattle.frames.specs.Layers.{controlOctets, controlOf, formOf, securedBit, headerOf, givenTo}
+use Rattle.frames.specs.Reading.{readSecured, reading}
+use Rattle.frames.proofs.Layers.{leastHeader, headerIn, opening, reading-is}
 use Rattle.frames.proofs.Found.{PlainFrame}
 
 -- the bit's value in the control field
@@ -117,7 +119,7 @@ module _ (l : Layer) (f : List ℕ) (h : ℕ) (p : PlainFrame l f h) where
   secured-length = length-set (take h f) (bitPlace l) _ ∙ front
 
   module _ (r : List ℕ) where
-    at-bit : at (securedHeader l f h ++ r) (bitPlace l) ≡ raised (bitValue l) (at f (bitPlace l))
+    at-bit : at (securedHeader l f h ++ r) (bitPlace l) ≡ marked (bitValue l) (at f (bitPlace l))
     unfolding securedHeader
     at-bit =
         List·getD-append (securedHeader l f h) r 0 (bitPlace l) (rw secured-length place-below)
@@ -132,9 +134,9 @@ module _ (l : Layer) (f : List ℕ) (h : ℕ) (p : PlainFrame l f h) where
 
 -- ---- the bit in its octet
 
-raised-clear : (v x : ℕ) → x / v % 2 ≡ 0 → raised v x ≡ x + v
-unfolding raised cleared
-raised-clear v x e = rw e (omega arith)
+marked-clear : (v x : ℕ) → x / v % 2 ≡ 0 → marked v x ≡ x + v
+unfolding marked cleared
+marked-clear v x e = rw e (omega arith)
 
 cleared-back : (l : Layer) (x : ℕ) → x / bitValue l % 2 ≡ 0 → cleared (bitValue l) (x + bitValue l) ≡ x
 unfolding cleared
@@ -147,15 +149,15 @@ octet-clear Network f o e = omega (arith, bit-clear Network (numberAt 2 f 0) e, 
 octet-clear Aps f o e = bit-clear Aps (at f 0) e
 
 module _ (l : Layer) (f : List ℕ) (h : ℕ) (p : PlainFrame l f h) (o : Octets f) (r : List ℕ) where
-  octet-raised : at (securedHeader l f h ++ r) (bitPlace l) ≡ at f (bitPlace l) + bitValue l
-  octet-raised = at-bit l f h p r ∙ raised-clear (bitValue l) (at f (bitPlace l)) (octet-clear l f o (p .unmarked))
+  octet-marked : at (securedHeader l f h ++ r) (bitPlace l) ≡ at f (bitPlace l) + bitValue l
+  octet-marked = at-bit l f h p r ∙ marked-clear (bitValue l) (at f (bitPlace l)) (octet-clear l f o (p .unmarked))
 
   -- the plain header again
   pub plain-again : plainHeader l (securedHeader l f h ++ r) h ≡ take h f
   unfolding plainHeader securedHeader
   plain-again =
       ap₂ (λ (x : List ℕ) (v : ℕ). set x (bitPlace l) v) (take-at (securedHeader l f h) r h (secured-length l f h p))
-      (ap (cleared (bitValue l)) octet-raised
+      (ap (cleared (bitValue l)) octet-marked
       ∙ cleared-back l (at f (bitPlace l)) (octet-clear l f o (p .unmarked))
       ∙ sym (getD-take h f (bitPlace l) 0 (place-below l f h p)))
       ∙ set-set (take h f) (bitPlace l) _ _
@@ -170,16 +172,16 @@ control-marked Network f h p o r =
       arith,
       number-two (securedHeader Network f h ++ r) 0,
       number-two f 0,
-      octet-raised Network f h p o r,
+      octet-marked Network f h p o r,
       at-other Network f h p r 0 (omega (arith, p .least)) n,
     )
-control-marked Aps f h p o r = octet-raised Aps f h p o r
+control-marked Aps f h p o r = octet-marked Aps f h p o r
 
 -- ---- the frame with the bit set is read as secured, behind the same header
 
-opening-secured : {s q u : Bool} (l : Layer) (f : List ℕ) (h a : ℕ) → s ≡ false → q ≡ true → u ≡ true
-    → opening s q u l f h a ≡ readSecured l f h a
-opening-secured l f h a x y z = simp (x, y, z)
+opening-secured : {s q u : Bool} (z : Settings) (l : Layer) (f : List ℕ) (h a : ℕ) → s ≡ false → q ≡ true → u ≡ true
+    → opening z s q u l f h a ≡ readSecured z l f h a
+opening-secured z l f h a x y w = simp (x, y, w)
 
 control-within : (l : Layer) → controlOctets l ≤ leastHeader l
 control-within Network = omega arith
@@ -197,14 +199,14 @@ module _ (l : Layer) (f : List ℕ) (h : ℕ) (p : PlainFrame l f h) (o : Octets
       (λ j a b. at-other l f h p r j (rw (p .head) b) (bit-early l j a))
       ∙ sym (p .head)
 
-  pub read-marked : (a : ℕ)
-      → reading l (securedHeader l f h ++ r) a ≡ readSecured l (securedHeader l f h ++ r) h (givenTo l a)
-  read-marked a =
-      reading-is l (securedHeader l f h ++ r) a
-      ∙ opening-secured l (securedHeader l f h ++ r) _ (givenTo l a) (le-ltb _ _ long)
+  pub read-marked : (z : Settings) (a : ℕ)
+      → reading z l (securedHeader l f h ++ r) a ≡ readSecured z l (securedHeader l f h ++ r) h (givenTo l a)
+  read-marked z a =
+      reading-is z l (securedHeader l f h ++ r) a
+      ∙ opening-secured z l (securedHeader l f h ++ r) _ (givenTo l a) (le-ltb _ _ long)
       (ap (formOf l) (control-marked l f h p o r) ∙ marked-form l (controlOf l f) (p .unmarked) ∙ p .formed)
       (ap (securedBit l) (control-marked l f h p o r) ∙ marked-bit l (controlOf l f) (p .unmarked))
-      ∙ ap (λ (n : ℕ). readSecured l (securedHeader l f h ++ r) n (givenTo l a)) head-kept
+      ∙ ap (λ (n : ℕ). readSecured z l (securedHeader l f h ++ r) n (givenTo l a)) head-kept
     where
       long : controlOctets l ≤ length (securedHeader l f h ++ r)
       long = simp length-append (omega (arith, control-within l, p .least, secured-length l f h p))

@@ -10,14 +10,16 @@ use lib.Dec.{eqb}
 use lib.ListN.{length, take, length-append}
 use lib.Seq.{getD-at, getD-append-add}
 use borrow.Author.Tests.{eq-eqb, ne-eqb, le-ltb, lt-leb}
+use Rattle.settings.specs.Settings.{Settings}
 use Rattle.octets.proofs.Numbers.{number-behind, least-spelled}
 use Rattle.octets.specs.Choice.{if_then_else_}
 use Rattle.octets.specs.Least.{numberAt, spelled}
 use Rattle.octets.specs.Lists.{at}
 use Rattle.frames.specs.declared.Layer.{Layer}
 use Rattle.frames.specs.declared.Secured.{Secured}
-use Rattle.frames.specs.Security.{tagOctets, extendedOf, wireControl, numbered, auxLength, counterOf, senderOf, sequenceOf, auxiliary}
-use Rattle.frames.specs.Reading.{secured, announced, suits, readSecured}
+use Rattle.frames.specs.Security.{extendedOf, wireControl, numbered, auxLength, counterOf, senderOf, sequenceOf, auxiliary}
+use Rattle.frames.specs.Reading.{secured, announced, readSecured}
+use Rattle.frames.specs.Layers.{suits}
 use Rattle.frames.proofs.Controls.{wire-identifier, wire-extended}
 use Rattle.octets.specs.Addresses.{noAddress}
 
@@ -61,17 +63,17 @@ module _ (p t : List ℕ) (h k n s : ℕ) (e : length p ≡ h) where
     unfolding announced
     announced-there a b d = simp (control-there, counter-there b, sender-there a d, sequence-there)
 
-    read-sent : (l : Layer) (a : ℕ) → suits l (wireControl k) ≡ true → n < 2 ^ 32 → s < 2 ^ 64 → noAddress s ≡ false → auxLength (wireControl k) + tagOctets ≤ 13 + length t
-        → readSecured l (p ++ sent k n s t) h a
+    read-sent : (z : Settings) (l : Layer) (a : ℕ) → suits l (wireControl k) ≡ true → n < 2 ^ 32 → s < 2 ^ 64 → noAddress s ≡ false → auxLength (wireControl k) + z .tag ≤ 13 + length t
+        → readSecured z l (p ++ sent k n s t) h a
         ≡ secured (fieldsOf h (auxLength (wireControl k)) (wireControl k) n s (numberSent k t))
     unfolding readSecured
-    read-sent l a v b d u w =
-        let z : length (p ++ sent k n s t) ≡ h + (13 + length t) = simp length-append (omega arith) in
+    read-sent z l a v b d u w =
+        let e₁ : length (p ++ sent k n s t) ≡ h + (13 + length t) = simp length-append (omega arith) in
         simp (
           lt-leb (length (p ++ sent k n s t)) h (omega arith),
           control-there,
           v,
-          le-ltb (length (p ++ sent k n s t)) (h + auxLength (wireControl k) + tagOctets) (omega arith),
+          le-ltb (length (p ++ sent k n s t)) (h + auxLength (wireControl k) + z .tag) (omega arith),
           sender-there a d,
           u,
         )
@@ -127,12 +129,12 @@ module _ (k n s q : ℕ) where
       go false = refl
 
   module _ (p c : List ℕ) (h : ℕ) (e : length p ≡ h) where
-    pub read-aux : (l : Layer) (a : ℕ) → k < 4 → suits l (wireControl k) ≡ true → n < 2 ^ 32 → s < 2 ^ 64 → noAddress s ≡ false → tagOctets ≤ length c
-        → readSecured l (p ++ (auxiliary k n s q ++ c)) h a
+    pub read-aux : (z : Settings) (l : Layer) (a : ℕ) → k < 4 → suits l (wireControl k) ≡ true → n < 2 ^ 32 → s < 2 ^ 64 → noAddress s ≡ false → z .tag ≤ length c
+        → readSecured z l (p ++ (auxiliary k n s q ++ c)) h a
         ≡ secured (fieldsOf h (length (auxiliary k n s q)) (wireControl k) n s (if eqb k 1 then q else 0))
-    read-aux l a k< v b d u w =
+    read-aux z l a k< v b d u w =
         let m : length (auxiliary k n s q) + length c ≡ 13 + length (behindSender c) =
         sym (length-append (auxiliary k n s q) c) ∙ ap length (aux-sent c) ∙ omega arith in
-        ap (λ (t : List ℕ). readSecured l (p ++ t) h a) (aux-sent c)
-        ∙ read-sent p (behindSender c) h k n s e k< l a v b d u (omega (arith, aux-wire k<))
+        ap (λ (t : List ℕ). readSecured z l (p ++ t) h a) (aux-sent c)
+        ∙ read-sent p (behindSender c) h k n s e k< z l a v b d u (omega (arith, aux-wire k<))
         ∙ ap₂ (λ (x y : ℕ). secured (fieldsOf h x (wireControl k) n s y)) (aux-wire k<) (number-sent c)

@@ -8,10 +8,6 @@ use Prim.Native.Nat.{ℕ, _/_, _%_}
 use lib.Dec.{eqb, ltb}
 use Rattle.octets.specs.Choice.{if_then_else_, both}
 
--- "APS (read or written) over 108"
-abbrev pub longestAps : ℕ
-longestAps = 108
-
 unfoldable pub apsType : ℕ → ℕ
 apsType c = c % 4
 

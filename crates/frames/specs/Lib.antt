@@ -1,5 +1,7 @@
 pub mod Security
 pub mod Network
 pub mod Aps
+pub mod Layers
 pub mod Reading
 pub mod Making
+pub mod Code

@@ -24,15 +24,15 @@ bitValue Aps = 32
 unfoldable pub cleared : ℕ → ℕ → ℕ
 cleared v x = x - x / v % 2 * v
 
-unfoldable pub raised : ℕ → ℕ → ℕ
-raised v x = cleared v x + v
+unfoldable pub marked : ℕ → ℕ → ℕ
+marked v x = cleared v x + v
 
 -- the h octets of a frame's header, with the security bit cleared, and set
 unfoldable pub plainHeader : Layer → List ℕ → ℕ → List ℕ
 plainHeader l f h = set (take h f) (bitPlace l) (cleared (bitValue l) (at f (bitPlace l)))
 
 unfoldable pub securedHeader : Layer → List ℕ → ℕ → List ℕ
-securedHeader l f h = set (take h f) (bitPlace l) (raised (bitValue l) (at f (bitPlace l)))
+securedHeader l f h = set (take h f) (bitPlace l) (marked (bitValue l) (at f (bitPlace l)))
 
 -- a header x of n octets of f, laid at the start of an output o; o stays where f or o has fewer
 unfoldable pub laid : List ℕ → List ℕ → ℕ → List ℕ → List ℕ

@@ -1,24 +1,43 @@
 -- Document 01, "Opening and sealing": how far a frame is read before a key is looked for. "Order when opening: .. 3 for the
 -- control field, 4, 3 up to the security control, 5 for it, 3 for the rest and the tag, 5 for the sender"; "Sealing: .. 3,
--- 4, 3", where 4 is also "security bit already set".
+-- 4, 3", where 4 is also "security bit already set". Each is read in the same way at both layers.
 -- Assumes nothing.
-use mathlib.Core.Bool.{Bool, not}
+use mathlib.Core.Bool.{Bool, true, false, not}
 use mathlib.Core.List.{List}
 use Prim.Native.Nat.{ℕ, _+_}
 use lib.Dec.{eqb, leb, ltb}
 use lib.ListN.{length}
+use Rattle.settings.specs.Settings.{Settings}
+use Rattle.octets.specs.Addresses.{noAddress}
 use Rattle.octets.specs.Choice.{if_then_else_, both}
 use Rattle.octets.specs.Lists.{at}
+use Rattle.answers.specs.Numbers.{numberOf}
 use Rattle.frames.specs.declared.Layer.{Layer}
-use Rattle.frames.specs.declared.Layer.the-variants.{Network, Aps}
+use Rattle.frames.specs.declared.Layer.the-variants.{Aps}
 use Rattle.frames.specs.declared.Secured.{Secured}
 use Rattle.frames.specs.declared.Read.{Read}
-use Rattle.frames.specs.Security.{tagOctets, identifierOf, extendedOf, auxLength, counterOf, senderOf, sequenceOf}
-use Rattle.frames.specs.Network.{networkControl, networkForm, networkSecured, networkHeader, networkKeyed}
-use Rattle.frames.specs.Aps.{apsType, apsForm, apsSecured, apsHeader, apsKeyed}
-use Rattle.answers.specs.Numbers.{numberOf}
+use Rattle.frames.specs.declared.PlainRead.{PlainRead}
+use Rattle.frames.specs.Security.{auxLength, counterOf, senderOf, sequenceOf}
+use Rattle.frames.specs.Aps.{apsType}
+use Rattle.frames.specs.Layers.{controlOctets, controlOf, formOf, securedBit, headerOf, suits, givenTo}
 use Rattle.frames.specs.declared.Read.the-variants as reads
-use Rattle.octets.specs.Addresses.{noAddress}
+use Rattle.frames.specs.declared.PlainRead.the-variants as plains
+
+-- ---- the header, for opening, for sealing and for the command reader
+
+-- what reading it tells: a refusal's number, or its length and whether the security bit is set
+pub data Header : Type 0 where
+  unfit : ℕ → Header
+  header : ℕ → Bool → Header
+
+-- "3 for the control field, 4"
+unfoldable pub readHeader : Layer → List ℕ → Header
+readHeader l f =
+    if ltb (length f) (controlOctets l) then unfit 3
+    else (if not (formOf l (controlOf l f)) then unfit 4
+    else header (headerOf l f (controlOf l f)) (securedBit l (controlOf l f)))
+
+-- ---- a frame that is to be opened
 
 -- what reading tells: a refusal's number, the header's length of an unsecured frame, or what a secured one announces
 pub data Reading : Type 0 where
@@ -43,61 +62,52 @@ announced f h given =
       sequence = sequenceOf f h;
     }
 
--- whether a security control has a key identifier and a nonce bit of the layer
-abbrev pub suits : Layer → ℕ → Bool
-suits Network c = networkKeyed (identifierOf c) (extendedOf c)
-suits Aps c = apsKeyed (identifierOf c)
-
--- a secured frame behind h octets of header
-unfoldable pub readSecured : Layer → List ℕ → ℕ → ℕ → Reading
-readSecured l f h given =
+-- a secured frame behind h octets of header: "3 up to the security control, 5 for it, 3 for the rest and the tag, 5 for the
+-- sender"
+unfoldable pub readSecured : Settings → Layer → List ℕ → ℕ → ℕ → Reading
+readSecured z l f h given =
     if leb (length f) h then refused 3
     else (if not (suits l (at f h)) then refused 5
-    else (if ltb (length f) (h + auxLength (at f h) + tagOctets) then refused 3
+    else (if ltb (length f) (h + auxLength (at f h) + z .tag) then refused 3
     else (if noAddress (senderOf f h given) then refused 5
     else secured (announced f h given))))
 
 unfoldable pub readPlain : List ℕ → ℕ → Reading
 readPlain f h = if ltb (length f) h then refused 3 else plain h
 
-unfoldable pub readNetwork : List ℕ → Reading
-readNetwork f =
-    if ltb (length f) 2 then refused 3
-    else (if not (networkForm (networkControl f)) then refused 4
-    else (if networkSecured (networkControl f)
-    then readSecured Network f (networkHeader f (networkControl f)) 0
-    else readPlain f (networkHeader f (networkControl f))))
+abbrev pub readBehind : Settings → Layer → List ℕ → ℕ → Header → Reading
+readBehind z l f given (unfit n) = refused n
+readBehind z l f given (header h true) = readSecured z l f h (givenTo l given)
+readBehind z l f given (header h false) = readPlain f h
 
-unfoldable pub readAps : List ℕ → ℕ → Reading
-readAps f given =
-    if ltb (length f) 1 then refused 3
-    else (if not (apsForm (at f 0)) then refused 4
-    else (if apsSecured (at f 0)
-    then readSecured Aps f (apsHeader (at f 0)) given
-    else readPlain f (apsHeader (at f 0))))
+unfoldable pub reading : Settings → Layer → List ℕ → ℕ → Reading
+reading z l f given = readBehind z l f given (readHeader l f)
 
--- ---- a plain frame that is to be sealed
+-- ---- a plain frame that is to be sealed, or whose command is to be read
 
-unfoldable pub readNetworkPlain : List ℕ → Reading
-readNetworkPlain f =
-    if ltb (length f) 2 then refused 3
-    else (if both (networkForm (networkControl f)) (not (networkSecured (networkControl f)))
-    then readPlain f (networkHeader f (networkControl f))
-    else refused 4)
+-- what reading tells: a refusal's number, or the header's length
+pub data PlainReading : Type 0 where
+  unread : ℕ → PlainReading
+  headed : ℕ → PlainReading
 
-unfoldable pub readApsPlain : List ℕ → Reading
-readApsPlain f =
-    if ltb (length f) 1 then refused 3
-    else (if both (apsForm (at f 0)) (not (apsSecured (at f 0)))
-    then readPlain f (apsHeader (at f 0))
-    else refused 4)
+abbrev pub toldPlain : PlainRead → PlainReading
+toldPlain (plains.Refused r) = unread (numberOf r)
+toldPlain (plains.Header h) = headed h
 
--- ---- a plain frame whose command is to be read
+abbrev pub plainBehind : List ℕ → Header → PlainReading
+plainBehind f (unfit n) = unread n
+plainBehind f (header h true) = unread 4
+plainBehind f (header h false) = if ltb (length f) h then unread 3 else headed h
+
+unfoldable pub readingPlain : Layer → List ℕ → PlainReading
+readingPlain l f = plainBehind f (readHeader l f)
 
 -- "3 for the control field, 4, 3 for the header, then 4 if it is no command or has its security bit set"
-unfoldable pub readApsCommand : List ℕ → Reading
-readApsCommand f =
-    if ltb (length f) 1 then refused 3
-    else (if not (apsForm (at f 0)) then refused 4
-    else (if ltb (length f) (apsHeader (at f 0)) then refused 3
-    else (if both (eqb (apsType (at f 0)) 1) (not (apsSecured (at f 0))) then plain (apsHeader (at f 0)) else refused 4)))
+abbrev pub commandBehind : List ℕ → Header → PlainReading
+commandBehind f (unfit n) = unread n
+commandBehind f (header h s) =
+    if ltb (length f) h then unread 3
+    else (if both (eqb (apsType (at f 0)) 1) (not s) then headed h else unread 4)
+
+unfoldable pub readingCommand : List ℕ → PlainReading
+readingCommand f = commandBehind f (readHeader Aps f)

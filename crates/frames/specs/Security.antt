@@ -10,15 +10,9 @@ use lib.ListN.{take, set}
 use Rattle.octets.specs.Choice.{if_then_else_}
 use Rattle.octets.specs.Least.{numberAt, spelled}
 use Rattle.octets.specs.Lists.{at}
+use Rattle.settings.specs.Settings.{Settings}
 
 -- ---- the security control
-
--- the level that is worked with, and the octets of its tag
-abbrev pub level : ℕ
-level = 5
-
-abbrev pub tagOctets : ℕ
-tagOctets = 4
 
 unfoldable pub identifierOf : ℕ → ℕ
 identifierOf c = c / 8 % 4
@@ -26,8 +20,9 @@ identifierOf c = c / 8 % 4
 unfoldable pub extendedOf : ℕ → ℕ
 extendedOf c = c / 32 % 2
 
-unfoldable pub withLevel : ℕ → ℕ
-withLevel c = c / 8 * 8 + level
+-- "it is replaced by 5"
+unfoldable pub withLevel : Settings → ℕ → ℕ
+withLevel z c = c / 8 * 8 + z .level
 
 -- as it is sent: level 0, the identifier, the extended nonce
 unfoldable pub wireControl : ℕ → ℕ
@@ -55,13 +50,13 @@ sequenceOf f h = if eqb (identifierOf (at f h)) 1 then at f (h + 5 + 8 * extende
 -- ---- what goes into CCM*
 
 -- "Nonce: sender (8) and counter (4) in wire order, control (1) with level 5."
-unfoldable pub nonceOf : ℕ → ℕ → ℕ → List ℕ
-nonceOf sender counter c = spelled 8 sender ++ (spelled 4 counter ++ (withLevel c ∷ []))
+unfoldable pub nonceOf : Settings → ℕ → ℕ → ℕ → List ℕ
+nonceOf z sender counter c = spelled 8 sender ++ (spelled 4 counter ++ (withLevel z c ∷ []))
 
 -- "Authenticated: frame header as sent, then the auxiliary header with level 5": the first n octets of a frame whose
 -- security control stands at place h
-unfoldable pub authenticated : List ℕ → ℕ → ℕ → List ℕ
-authenticated f h n = set (take n f) h (withLevel (at f h))
+unfoldable pub authenticated : Settings → List ℕ → ℕ → ℕ → List ℕ
+authenticated z f h n = set (take n f) h (withLevel z (at f h))
 
 -- the auxiliary header as sealing sends it, with the sender always: "Security control, frame counter (4), sender (8 ..),
 -- key sequence number (1 if the key identifier is 1)"

@@ -1,9 +1,13 @@
 // The APS header.
+use crate::Heading;
+use answers::Refusal;
 ghost use mathlib.Core.Path.{_≡_};
-ghost use Prim.Native.Nat.{_≤_};
+ghost use Rattle.frames.specs.declared.Layer.the-variants.{Aps};
+ghost use Rattle.frames.specs.Reading.{readHeader};
+ghost use Rattle.frames.specs.Code.{toldHeading};
 ghost use Rattle.frames.specs.Aps.{apsForm, apsSecured, apsHeader, apsKeyed};
 
-pub(crate) fn form(c: u8) -> bool
+fn form(c: u8) -> bool
     ensures { λ r. ⌜ r ≡ apsForm c ⌝ }
 {
     if 128 <= c {
@@ -30,14 +34,14 @@ pub(crate) fn form(c: u8) -> bool
     delivery == 0
 }
 
-pub(crate) fn is_secured(c: u8) -> bool
+fn is_secured(c: u8) -> bool
     ensures { λ r. ⌜ r ≡ apsSecured c ⌝ }
 {
     c / 32 % 2 == 1
 }
 
-pub(crate) fn header_length(c: u8) -> usize
-    ensures { λ r. ⌜ (r ≡ apsHeader c) × (r ≤ 9) ⌝ }
+fn header_length(c: u8) -> usize
+    ensures { λ r. ⌜ r ≡ apsHeader c ⌝ }
 {
     let kind = c % 4;
     if kind == 0 {
@@ -53,6 +57,19 @@ pub(crate) fn header_length(c: u8) -> usize
         return 2;
     }
     8
+}
+
+pub(crate) fn read(f: &[u8]) -> Heading
+    ensures { λ r. ⌜ toldHeading r ≡ readHeader Aps (now (f .entry)) ⌝ }
+{
+    if f.len() < 1 {
+        return Heading::Refused(Refusal::Short);
+    }
+    let c = octets::octet(f, 0);
+    if !form(c) {
+        return Heading::Refused(Refusal::Form);
+    }
+    Heading::Octets(header_length(c), is_secured(c))
 }
 
 pub(crate) fn is_keyed(identifier: u8) -> bool

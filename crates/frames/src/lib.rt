@@ -10,11 +10,9 @@ use answers::Refusal;
 pub use making::lay_authenticated;
 pub use making::lay_plain_header;
 pub use making::lay_secured_header;
-pub use reading::read_aps;
-pub use reading::read_aps_command;
-pub use reading::read_aps_plain;
-pub use reading::read_network;
-pub use reading::read_network_plain;
+pub use reading::read_command;
+pub use reading::read_frame;
+pub use reading::read_plain;
 pub use security::identifier;
 pub use security::lay_auxiliary;
 pub use security::nonce;
@@ -36,9 +34,22 @@ pub struct Secured {
     pub sequence: u8,
 }
 
-// A frame read: refused, unsecured with so many octets of header, or secured.
+// A frame that is to be opened: refused, unsecured with so many octets of header, or secured.
 pub enum Read {
     Refused(Refusal),
     Plain(usize),
     Secured(Secured),
+}
+
+// A plain frame that is to be sealed, or whose command is to be read: refused, or its header has so
+// many octets.
+pub enum PlainRead {
+    Refused(Refusal),
+    Header(usize),
+}
+
+// A header read: refused, or so many octets of it, and whether the security bit is set.
+enum Heading {
+    Refused(Refusal),
+    Octets(usize, bool),
 }

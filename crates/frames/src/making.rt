@@ -3,8 +3,9 @@ use crate::Layer;
 use crate::security;
 ghost use mathlib.Core.Path.{_≡_};
 ghost use lib.ListN.{set, take};
+ghost use Rattle.settings.specs.Settings.{ours};
 ghost use Rattle.frames.specs.Security.{authenticated};
-ghost use Rattle.frames.specs.Making.{bitPlace, bitValue, cleared, raised, plainHeader, securedHeader, laid};
+ghost use Rattle.frames.specs.Making.{bitPlace, bitValue, cleared, marked, plainHeader, securedHeader, laid};
 
 // The first n octets of f with x in place i, at the start of out; out stays where f or out has
 // fewer.
@@ -26,7 +27,7 @@ fn lay(out: &mut [u8], f: &[u8], n: usize, i: usize, x: u8)
 // The authenticated octets of a secured frame: its first n, with level 5 in the security control,
 // which stands at place h.
 pub fn lay_authenticated(out: &mut [u8], f: &[u8], h: usize, n: usize)
-    ensures { λ _. ⌜ now (out .exit) ≡ laid (now (out .entry)) (now (f .entry)) n (authenticated (now (f .entry)) h n) ⌝ }
+    ensures { λ _. ⌜ now (out .exit) ≡ laid (now (out .entry)) (now (f .entry)) n (authenticated ours (now (f .entry)) h n) ⌝ }
 {
     lay(out, f, n, h, security::with_level(octets::octet(f, h)));
 }
@@ -49,8 +50,8 @@ fn clear(l: Layer, x: u8) -> u8
     }
 }
 
-fn raise(l: Layer, x: u8) -> u8
-    ensures { λ r. ⌜ r ≡ raised (bitValue l) x ⌝ }
+fn mark(l: Layer, x: u8) -> u8
+    ensures { λ r. ⌜ r ≡ marked (bitValue l) x ⌝ }
 {
     match l {
         Layer::Network => x - x / 2 % 2 * 2 + 2,
@@ -71,5 +72,5 @@ pub fn lay_secured_header(out: &mut [u8], l: Layer, f: &[u8], h: usize)
     ensures { λ _. ⌜ now (out .exit) ≡ laid (now (out .entry)) (now (f .entry)) h (securedHeader l (now (f .entry)) h) ⌝ }
 {
     let i = place(l);
-    lay(out, f, h, i, raise(l, octets::octet(f, i)));
+    lay(out, f, h, i, mark(l, octets::octet(f, i)));
 }

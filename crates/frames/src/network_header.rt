@@ -1,9 +1,14 @@
 // The network header.
+use crate::Heading;
+use answers::Refusal;
 ghost use mathlib.Core.Path.{_≡_};
 ghost use Prim.Native.Nat.{_≤_};
+ghost use Rattle.frames.specs.declared.Layer.the-variants.{Network};
+ghost use Rattle.frames.specs.Reading.{readHeader};
+ghost use Rattle.frames.specs.Code.{toldHeading};
 ghost use Rattle.frames.specs.Network.{networkForm, networkSecured, networkBase, networkHeader, networkKeyed};
 
-pub(crate) fn form(c: u16) -> bool
+fn form(c: u16) -> bool
     ensures { λ r. ⌜ r ≡ networkForm c ⌝ }
 {
     if 1 < c % 4 {
@@ -21,7 +26,7 @@ pub(crate) fn form(c: u16) -> bool
     c < 16384
 }
 
-pub(crate) fn is_secured(c: u16) -> bool
+fn is_secured(c: u16) -> bool
     ensures { λ r. ⌜ r ≡ networkSecured c ⌝ }
 {
     c / 512 % 2 == 1
@@ -36,8 +41,8 @@ fn base(c: u16) -> usize
     8 + 8 * destination + 8 * source
 }
 
-pub(crate) fn header_length(f: &[u8], c: u16) -> usize
-    ensures { λ r. ⌜ (r ≡ networkHeader (now (f .entry)) c) × (r ≤ 600) ⌝ }
+fn header_length(f: &[u8], c: u16) -> usize
+    ensures { λ r. ⌜ r ≡ networkHeader (now (f .entry)) c ⌝ }
 {
     let b = base(c);
     if c / 1024 % 2 == 1 {
@@ -45,6 +50,19 @@ pub(crate) fn header_length(f: &[u8], c: u16) -> usize
         return b + 2 + 2 * n;
     }
     b
+}
+
+pub(crate) fn read(f: &[u8]) -> Heading
+    ensures { λ r. ⌜ toldHeading r ≡ readHeader Network (now (f .entry)) ⌝ }
+{
+    if f.len() < 2 {
+        return Heading::Refused(Refusal::Short);
+    }
+    let c = octets::number2(f, 0);
+    if !form(c) {
+        return Heading::Refused(Refusal::Form);
+    }
+    Heading::Octets(header_length(f, c), is_secured(c))
 }
 
 // Whether a key identifier and a nonce bit are the network layer's.

@@ -1,5 +1,7 @@
 // Frames read in the order in which document 01 judges them, up to where a key is looked for.
+use crate::Heading;
 use crate::Layer;
+use crate::PlainRead;
 use crate::Read;
 use crate::Secured;
 use crate::aps_header;
@@ -7,13 +9,35 @@ use crate::network_header;
 use crate::security;
 use answers::Refusal;
 ghost use mathlib.Core.Path.{_≡_};
-ghost use Prim.Native.Nat.{_≤_, _<_};
+ghost use Prim.Native.Nat.{_<_};
 ghost use lib.ListN.{length};
-ghost use Rattle.frames.specs.Reading.{toldRead, announced, suits, readSecured, readPlain, readNetwork, readAps, readNetworkPlain, readApsPlain, readApsCommand};
+ghost use Rattle.settings.specs.Settings.{ours};
+ghost use Rattle.frames.specs.Layers.{suits, givenTo};
+ghost use Rattle.frames.specs.Reading.{toldRead, announced, readHeader, readSecured, readPlain, reading, toldPlain, readingPlain, readingCommand};
+ghost use Rattle.frames.specs.Code.{toldHeading};
+
+fn read_header(l: Layer, f: &[u8]) -> Heading
+    ensures { λ r. ⌜ toldHeading r ≡ readHeader l (now (f .entry)) ⌝ }
+{
+    match l {
+        Layer::Network => network_header::read(f),
+        Layer::Aps => aps_header::read(f),
+    }
+}
+
+// The network layer looks at no sender that the caller gives.
+fn given_to(l: Layer, given: u64) -> u64
+    ensures { λ r. ⌜ r ≡ givenTo l given ⌝ }
+{
+    match l {
+        Layer::Network => 0,
+        Layer::Aps => given,
+    }
+}
 
 // What the auxiliary header behind h octets of header announces.
 fn announce(f: &[u8], h: usize, given: u64) -> Secured
-    requires { ⌜ (h < length (now f)) × (h ≤ 600) ⌝ }
+    requires { ⌜ h < length (now f) ⌝ }
     ensures { λ r. ⌜ r ≡ announced (now (f .entry)) h given ⌝ }
 {
     let control = f[h];
@@ -44,8 +68,7 @@ fn is_suited(l: Layer, control: u8) -> bool
 
 // A secured frame behind h octets of header.
 fn secured_behind(l: Layer, f: &[u8], h: usize, given: u64) -> Read
-    requires { ⌜ h ≤ 600 ⌝ }
-    ensures { λ r. ⌜ toldRead r ≡ readSecured l (now (f .entry)) h given ⌝ }
+    ensures { λ r. ⌜ toldRead r ≡ readSecured ours l (now (f .entry)) h given ⌝ }
 {
     if f.len() <= h {
         return Read::Refused(Refusal::Short);
@@ -53,7 +76,7 @@ fn secured_behind(l: Layer, f: &[u8], h: usize, given: u64) -> Read
     if !is_suited(l, f[h]) {
         return Read::Refused(Refusal::Security);
     }
-    if f.len() < h + security::aux_length(f[h]) + 4 {
+    if f.len() < h + security::aux_length(f[h]) + settings::TAG {
         return Read::Refused(Refusal::Short);
     }
     if octets::no_address(security::sender(f, h, given)) {
@@ -71,96 +94,56 @@ fn plain_behind(f: &[u8], h: usize) -> Read
     Read::Plain(h)
 }
 
-// A network frame that is to be opened.
-pub fn read_network(f: &[u8]) -> Read
-    ensures { λ r. ⌜ toldRead r ≡ readNetwork (now (f .entry)) ⌝ }
+// A frame that is to be opened; given is the sender of an APS frame that carries none.
+pub fn read_frame(layer: Layer, frame: &[u8], given: u64) -> Read
+    ensures { λ r. ⌜ toldRead r ≡ reading ours layer (now (frame .entry)) given ⌝ }
 {
-    if f.len() < 2 {
-        return Read::Refused(Refusal::Short);
+    match read_header(layer, frame) {
+        Heading::Refused(r) => Read::Refused(r),
+        Heading::Octets(h, secured) => {
+            if secured {
+                return secured_behind(layer, frame, h, given_to(layer, given));
+            }
+            plain_behind(frame, h)
+        }
     }
-    let c = octets::number2(f, 0);
-    if !network_header::form(c) {
-        return Read::Refused(Refusal::Form);
-    }
-    let h = network_header::header_length(f, c);
-    if network_header::is_secured(c) {
-        return secured_behind(Layer::Network, f, h, 0);
-    }
-    plain_behind(f, h)
 }
 
-// An APS frame that is to be opened; given is its sender where it carries none.
-pub fn read_aps(f: &[u8], given: u64) -> Read
-    ensures { λ r. ⌜ toldRead r ≡ readAps (now (f .entry)) given ⌝ }
+// A plain frame that is to be sealed.
+pub fn read_plain(layer: Layer, frame: &[u8]) -> PlainRead
+    ensures { λ r. ⌜ toldPlain r ≡ readingPlain layer (now (frame .entry)) ⌝ }
 {
-    if f.len() < 1 {
-        return Read::Refused(Refusal::Short);
+    match read_header(layer, frame) {
+        Heading::Refused(r) => PlainRead::Refused(r),
+        Heading::Octets(h, secured) => {
+            if secured {
+                return PlainRead::Refused(Refusal::Form);
+            }
+            if frame.len() < h {
+                return PlainRead::Refused(Refusal::Short);
+            }
+            PlainRead::Header(h)
+        }
     }
-    let c = octets::octet(f, 0);
-    if !aps_header::form(c) {
-        return Read::Refused(Refusal::Form);
-    }
-    let h = aps_header::header_length(c);
-    if aps_header::is_secured(c) {
-        return secured_behind(Layer::Aps, f, h, given);
-    }
-    plain_behind(f, h)
-}
-
-// A plain network frame that is to be sealed.
-pub fn read_network_plain(f: &[u8]) -> Read
-    ensures { λ r. ⌜ toldRead r ≡ readNetworkPlain (now (f .entry)) ⌝ }
-{
-    if f.len() < 2 {
-        return Read::Refused(Refusal::Short);
-    }
-    let c = octets::number2(f, 0);
-    if !network_header::form(c) {
-        return Read::Refused(Refusal::Form);
-    }
-    if network_header::is_secured(c) {
-        return Read::Refused(Refusal::Form);
-    }
-    plain_behind(f, network_header::header_length(f, c))
-}
-
-// A plain APS frame that is to be sealed.
-pub fn read_aps_plain(f: &[u8]) -> Read
-    ensures { λ r. ⌜ toldRead r ≡ readApsPlain (now (f .entry)) ⌝ }
-{
-    if f.len() < 1 {
-        return Read::Refused(Refusal::Short);
-    }
-    let c = octets::octet(f, 0);
-    if !aps_header::form(c) {
-        return Read::Refused(Refusal::Form);
-    }
-    if aps_header::is_secured(c) {
-        return Read::Refused(Refusal::Form);
-    }
-    plain_behind(f, aps_header::header_length(c))
 }
 
 // A plain APS frame whose command is to be read.
-pub fn read_aps_command(f: &[u8]) -> Read
-    ensures { λ r. ⌜ toldRead r ≡ readApsCommand (now (f .entry)) ⌝ }
+pub fn read_command(frame: &[u8]) -> PlainRead
+    ensures { λ r. ⌜ toldPlain r ≡ readingCommand (now (frame .entry)) ⌝ }
 {
-    if f.len() < 1 {
-        return Read::Refused(Refusal::Short);
+    match aps_header::read(frame) {
+        Heading::Refused(r) => PlainRead::Refused(r),
+        Heading::Octets(h, secured) => {
+            if frame.len() < h {
+                return PlainRead::Refused(Refusal::Short);
+            }
+            if octets::octet(frame, 0) % 4 != 1 {
+                return PlainRead::Refused(Refusal::Form);
+            }
+            if secured {
+                return PlainRead::Refused(Refusal::Form);
+            }
+            PlainRead::Header(h)
+        }
     }
-    let c = octets::octet(f, 0);
-    if !aps_header::form(c) {
-        return Read::Refused(Refusal::Form);
-    }
-    let h = aps_header::header_length(c);
-    if f.len() < h {
-        return Read::Refused(Refusal::Short);
-    }
-    if c % 4 != 1 {
-        return Read::Refused(Refusal::Form);
-    }
-    if aps_header::is_secured(c) {
-        return Read::Refused(Refusal::Form);
-    }
-    Read::Plain(h)
 }

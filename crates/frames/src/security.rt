@@ -5,6 +5,7 @@ ghost use Prim.Native.Nat.{_%_, _≤_, _<_};
 ghost use lib.ListN.{length};
 ghost use Rattle.octets.specs.Lists.{pasted};
 ghost use Rattle.octets.specs.Least.{spelled};
+ghost use Rattle.settings.specs.Settings.{ours};
 ghost use Rattle.frames.specs.Security.{identifierOf, extendedOf, withLevel, wireControl, auxLength, senderOf, sequenceOf, nonceOf, auxiliary};
 
 // The key identifier that a security control names.
@@ -21,9 +22,9 @@ pub(crate) fn extended(control: u8) -> u8
 }
 
 pub(crate) fn with_level(control: u8) -> u8
-    ensures { λ r. ⌜ r ≡ withLevel control ⌝ }
+    ensures { λ r. ⌜ r ≡ withLevel ours control ⌝ }
 {
-    (control & 0xf8) | 5
+    (control & 0xf8) | settings::LEVEL
 }
 
 // The security control that sealing sends: level 0, the identifier, of which only the two lowest
@@ -68,7 +69,7 @@ pub(crate) fn sequence(f: &[u8], h: usize) -> u8
 
 // The nonce of CCM*, its control with level 5.
 pub fn nonce(sender: u64, counter: u32, control: u8) -> [u8; 13]
-    ensures { λ r. ⌜ r ≡ nonceOf sender counter control ⌝ }
+    ensures { λ r. ⌜ r ≡ nonceOf ours sender counter control ⌝ }
 {
     let s1 = sender / 256;
     let s2 = s1 / 256;

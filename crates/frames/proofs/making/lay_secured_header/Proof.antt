@@ -1,5 +1,5 @@
 use borrow.Author.Needs.{needs}
-use Rattle.frames.specs.Making.{bitValue, raised, securedHeader}
+use Rattle.frames.specs.Making.{bitValue, marked, securedHeader}
 use Rattle.frames.proofs.Layings.{laid-over}
 use Rattle.frames.proofs.making.lay_secured_header.Statement.{statement}
 use Rattle.frames.proofs.making.lay_secured_header.Tie as tie
@@ -10,8 +10,8 @@ place-requires c κs = search needs
 octet-requires : tie.Need-octet-requires
 octet-requires c κs = search needs
 
-raise-requires : tie.Need-raise-requires
-raise-requires c κs = search needs
+mark-requires : tie.Need-mark-requires
+mark-requires c κs = search needs
 
 lay-requires : tie.Need-lay-requires
 lay-requires c κs = search needs
@@ -23,14 +23,14 @@ returns : tie.Need-returns
 unfolding securedHeader
 returns c =
     let after-lay : tie.After-lay = search in
-    let after-raise : tie.After-raise = search in
+    let after-mark : tie.After-mark = search in
     let after-octet : tie.After-octet = search in
     let after-place : tie.After-place = search in
     let start : tie.Start = search in
-    laid-over _ _ _ _ _ _ _ _ (raised (bitValue (start .args .l))) (after-lay .lay .ensures) (after-place .place .ensures)
-    (after-raise .raise .ensures) (after-octet .octet .ensures)
+    laid-over _ _ _ _ _ _ _ _ (marked (bitValue (start .args .l))) (after-lay .lay .ensures) (after-place .place .ensures)
+    (after-mark .mark .ensures) (after-octet .octet .ensures)
 
 pub lay-secured-header-spec : {M : Type 1} → statement M
 lay-secured-header-spec =
     tie.close
-    (tie.spec place-requires octet-requires raise-requires lay-requires same-length returns)
+    (tie.spec place-requires octet-requires mark-requires lay-requires same-length returns)

@@ -1,4 +1,3 @@
-use native.Mathlib.Omega.{arith}
 use borrow.Author.Needs.{needs}
 use borrow.Author.Tests.{eq-eqb, ne-eqb}
 use Rattle.frames.specs.Network.{networkHeader}
@@ -25,14 +24,11 @@ add-result-2 c = search needs
 
 returns : tie.Need-returns
 unfolding networkHeader
-returns c = (
-  simp (eq-eqb _ _ (c .before .if1 .taken), ← c .before .before .base .ensures .0, ← c .octet .ensures),
-  omega (arith, c .before .before .base .ensures .1),
-)
+returns c = simp (eq-eqb _ _ (c .before .if1 .taken), ← c .before .before .base .ensures .0, ← c .octet .ensures)
 
 returns-2 : tie.Need-returns-2
 unfolding networkHeader
-returns-2 c = (simp (ne-eqb _ _ (c .if1 .left)) (c .before .base .ensures .0), omega (arith, c .before .base .ensures .1))
+returns-2 c = simp (ne-eqb _ _ (c .if1 .left)) (c .before .base .ensures .0)
 
 pub header-length-spec : {M : Type 1} → statement M
 header-length-spec =

@@ -3,7 +3,8 @@ use mathlib.Core.Bool.{true}
 use borrow.Author.Needs.{needs}
 use borrow.Author.Tests.{lt-ltb, le-ltb, le-leb, lt-leb, not-true, not-false}
 use Rattle.octets.specs.Lists.{at}
-use Rattle.frames.specs.Reading.{suits, readSecured, secured}
+use Rattle.frames.specs.Layers.{suits}
+use Rattle.frames.specs.Reading.{readSecured, secured}
 use Rattle.frames.proofs.reading.secured_behind.Statement.{statement}
 use Rattle.frames.proofs.reading.secured_behind.Tie as tie
 

@@ -1,7 +1,7 @@
 use borrow.Author.Needs.{needs}
-use Rattle.frames.specs.Making.{cleared, raised}
-use Rattle.frames.proofs.making.raise.Statement.{statement}
-use Rattle.frames.proofs.making.raise.Tie as tie
+use Rattle.frames.specs.Making.{cleared, marked}
+use Rattle.frames.proofs.making.mark.Statement.{statement}
+use Rattle.frames.proofs.making.mark.Tie as tie
 
 enum-told : tie.Need-enum-told
 enum-told c = search needs
@@ -28,15 +28,15 @@ add-result-2 : tie.Need-add-result-2
 add-result-2 c = search needs
 
 returns : tie.Need-returns
-unfolding raised cleared
+unfolding marked cleared
 returns c = simp (c .enum-told .given .1)
 
 returns-2 : tie.Need-returns-2
-unfolding raised cleared
+unfolding marked cleared
 returns-2 c = simp (c .enum-told2 .given .1)
 
-pub raise-spec : {M : Type 1} → statement M
-raise-spec =
+pub mark-spec : {M : Type 1} → statement M
+mark-spec =
     tie.close
     (tie.spec
     enum-told
