@@ -15,7 +15,7 @@ use Rattle.cipher.specs.Aes.{addBlocks, aes128}
 use Rattle.cipher.specs.Blocks.{zeroBlock, blocks, over}
 use Rattle.cipher.specs.Ccm.{streamed, bodyOf, fits, ccmSeal, ccmOpen, valid, invalid}
 use Rattle.cipher.specs.Hash.{hashedIn, hashOf, keyedHash, padded}
-use Rattle.cipher.specs.Answers.{gave, made, most, tagLength, sealing, opening, openedOnto, hashing, keyedHashing}
+use Rattle.cipher.specs.Answers.{product, made, most, tagLength, sealing, opening, openedOnto, hashing, keyedHashing}
 use Rattle.cipher.proofs.Opens.{tag-most}
 use Rattle.cipher.proofs.Streams.{streamed-length}
 use Rattle.cipher.proofs.RoundTrip.{aes-blocky, open-seal, seal-length}
@@ -47,7 +47,7 @@ valid-length E M n a c m h e = parsed (ltb (length c) M) e
 module _ (M : ℕ) (k n a : List ℕ) (t : tagLength M ≡ true) (ha : length a ≤ most) where
   -- sealing with room
   pub sealing-made : (m o : List ℕ) → length m ≤ most → length m + M ≤ length o
-      → sealing M k n a m o ≡ gave (made (length m + M)) (onto (ccmSeal (aes128 k) M n a m) o)
+      → sealing M k n a m o ≡ product (made (length m + M)) (onto (ccmSeal (aes128 k) M n a m) o)
   unfolding sealing
   sealing-made m o hm ho = simp (t, le-leb _ _ ha, le-leb _ _ hm, le-leb _ _ ho)
 
@@ -59,7 +59,7 @@ module _ (M : ℕ) (k n a : List ℕ) (t : tagLength M ≡ true) (ha : length a 
 
   -- opening of what was sealed
   pub opening-sealed : (m o : List ℕ) → length m ≤ most → length m ≤ length o
-      → opening M k n a (ccmSeal (aes128 k) M n a m) o ≡ gave (made (length m)) (onto m o)
+      → opening M k n a (ccmSeal (aes128 k) M n a m) o ≡ product (made (length m)) (onto m o)
   opening-sealed m o hm ho =
       let l = seal-length (aes128 k) M n a m in
       opening-judged (ccmSeal (aes128 k) M n a m) o (omega arith) (omega arith) (omega arith)
@@ -81,10 +81,10 @@ pub keyed-length : (k d : List ℕ) → length (keyedHash k d) ≡ 16
 unfolding keyedHash
 keyed-length k d = hash-length _
 
-pub hashing-made : (d : List ℕ) → length d ≤ 256 → hashing d ≡ gave (made 16) (hashOf d)
+pub hashing-made : (d : List ℕ) → length d ≤ 256 → hashing d ≡ product (made 16) (hashOf d)
 unfolding hashing
 hashing-made d h = simp (le-leb _ _ h)
 
-pub keyed-made : (k d : List ℕ) → length d ≤ 240 → keyedHashing k d ≡ gave (made 16) (keyedHash k d)
+pub keyed-made : (k d : List ℕ) → length d ≤ 240 → keyedHashing k d ≡ product (made 16) (keyedHash k d)
 unfolding keyedHashing
 keyed-made k d h = simp (le-leb _ _ h)

@@ -9,4 +9,4 @@ pub mod RoundTrip
 pub mod Lengths
 pub mod Cases
 pub mod Kept
-pub mod Told
+pub mod One

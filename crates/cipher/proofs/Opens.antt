@@ -16,7 +16,7 @@ use Rattle.octets.specs.Lists.{at, eqList, onto, pasted}
 use Rattle.cipher.specs.Aes.{addBlocks}
 use Rattle.cipher.specs.Blocks.{blockFrom}
 use Rattle.cipher.specs.Ccm.{keyStream, streamed, masked, macOf, tagOf, bodyOf, sealOf, fits, ccmOpen}
-use Rattle.cipher.specs.Answers.{gave, made, refused, tagLength, openedOnto}
+use Rattle.cipher.specs.Answers.{product, made, refused, tagLength, openedOnto}
 use Rattle.cipher.proofs.Parsed.{block-at}
 use Rattle.cipher.proofs.Streams.{streamed-length, masked-block}
 
@@ -65,14 +65,14 @@ module _ (E : List ℕ → List ℕ) (M : ℕ) (n a c o : List ℕ) (m≤ : M �
       tag : take M t ≡ masked E M n (sealOf M c)
       tag = ap (take M) et ∙ masked-block E M n (sealOf M c) u m≤ same
 
-  pub opened-false : fits E M n a c ≡ false → gave (refused 9) o ≡ openedOnto (ccmOpen E M n a c) o
+  pub opened-false : fits E M n a c ≡ false → product (refused 9) o ≡ openedOnto (ccmOpen E M n a c) o
   unfolding ccmOpen
   opened-false e = rw (le-ltb _ _ m≤c, e) refl
 
   pub opened-true : (z p q : List ℕ) → length c - M ≤ length o → fits E M n a c ≡ true → p ≡ onto plainOf z
-      → q ≡ pasted o 0 (take (length c - M) p) → gave (made (length c - M)) q ≡ openedOnto (ccmOpen E M n a c) o
+      → q ≡ pasted o 0 (take (length c - M) p) → product (made (length c - M)) q ≡ openedOnto (ccmOpen E M n a c) o
   unfolding ccmOpen
   opened-true z p q h e ep eq =
       let f = plain-front z p ep in
       let l : length plainOf ≤ length o = rw plain-length h in
-      rw (le-ltb _ _ m≤c, e) (ap₂ (λ (k : ℕ) (x : List ℕ). gave (made k) x) (sym plain-length) (pasted-onto q o plainOf (eq ∙ ap (pasted o 0) f) l))
+      rw (le-ltb _ _ m≤c, e) (ap₂ (λ (k : ℕ) (x : List ℕ). product (made k) x) (sym plain-length) (pasted-onto q o plainOf (eq ∙ ap (pasted o 0) f) l))

@@ -67,9 +67,9 @@ ccmSeal E M n a m = streamed E n m ++ masked E M n (tagOf E M n a m)
 
 -- ---- A.3 Decryption and authentication checking
 
-pub data Opened : Type 0 where
-  valid : List ℕ → Opened
-  invalid : Opened
+pub data Verdict : Type 0 where
+  valid : List ℕ → Verdict
+  invalid : Verdict
 
 -- A.3.1, 1: c as C || U, where U has M octets
 abbrev pub bodyOf : ℕ → List ℕ → List ℕ
@@ -83,7 +83,7 @@ unfoldable pub fits : (List ℕ → List ℕ) → ℕ → List ℕ → List ℕ 
 fits E M n a c = eqList (masked E M n (sealOf M c)) (tagOf E M n a (streamed E n (bodyOf M c)))
 
 -- A.3.1, 1: "Parse the message c as C || U .. If this operation fails, output 'invalid' and stop."
-unfoldable pub ccmOpen : (List ℕ → List ℕ) → ℕ → List ℕ → List ℕ → List ℕ → Opened
+unfoldable pub ccmOpen : (List ℕ → List ℕ) → ℕ → List ℕ → List ℕ → List ℕ → Verdict
 ccmOpen E M n a c =
     if ltb (length c) M then invalid
     else (if fits E M n a c then valid (streamed E n (bodyOf M c)) else invalid)

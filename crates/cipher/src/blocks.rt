@@ -7,12 +7,6 @@ ghost use lib.Seq.{paste};
 ghost use Rattle.octets.specs.Lists.{at};
 ghost use Rattle.cipher.specs.Blocks.{blockFrom};
 
-fn octet_at(d: &[u8], i: usize) -> u8
-    ensures { λ r. ⌜ r ≡ at (now (d .entry)) i ⌝ }
-{
-    if i < d.len() { d[i] } else { 0 }
-}
-
 fn whole_block(d: &[u8], i: usize) -> [u8; 16]
     requires { ⌜ i + 16 ≤ length (now d) ⌝ }
     ensures { λ r. ⌜ r ≡ blockFrom (now (d .entry)) i ⌝ }
@@ -30,7 +24,7 @@ fn padded_block(d: &[u8], i: usize) -> [u8; 16]
 {
     let mut t = [0u8; 16];
     for j in 0..16 {
-        t[j] = octet_at(d, i + j);
+        t[j] = octets::octet(d, i + j);
     }
     t
 }

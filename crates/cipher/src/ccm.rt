@@ -15,7 +15,7 @@ ghost use Rattle.cipher.specs.Sbox.{sboxTable};
 ghost use Rattle.cipher.specs.Aes.{cipher, addBlocks};
 ghost use Rattle.cipher.specs.Blocks.{twoOctets, blocks, over};
 ghost use Rattle.cipher.specs.Ccm.{field, absorbed, macOf, keyStream, streamed, ccmSeal, ccmOpen, led};
-ghost use Rattle.cipher.specs.Answers.{tagLength, gave, told, openedOnto};
+ghost use Rattle.cipher.specs.Answers.{tagLength, product, counted, openedOnto};
 
 // Whether M may be the length of a tag.
 pub(crate) fn tag_length(m: usize) -> bool
@@ -207,7 +207,7 @@ pub(crate) fn open_with(
     out: &mut [u8],
 ) -> Answer
     requires { ⌜ (now sb ≡ sboxTable) × ((m ≤ 16) × ((m ≤ length (now c)) × ((length (now c) ≤ 128 + m) × (length (now c) - m ≤ length (now out))))) ⌝ }
-    ensures { λ r. ⌜ gave (told r) (now (out .exit)) ≡ openedOnto (ccmOpen (cipher (now (w .entry))) m n (now (a .entry)) (now (c .entry))) (now (out .entry)) ⌝ }
+    ensures { λ r. ⌜ product (counted r) (now (out .exit)) ≡ openedOnto (ccmOpen (cipher (now (w .entry))) m n (now (a .entry)) (now (c .entry))) (now (out .entry)) ⌝ }
 {
     let l = c.len() - m;
     let mut plain = [0u8; 128];

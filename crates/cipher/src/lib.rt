@@ -9,7 +9,7 @@ mod mmo;
 
 ghost use mathlib.Core.Path.{_≡_};
 ghost use Rattle.cipher.specs.Aes.{aes128};
-ghost use Rattle.cipher.specs.Answers.{gave, told, sealing, opening, hashing, keyedHashing};
+ghost use Rattle.cipher.specs.Answers.{product, counted, sealing, opening, hashing, keyedHashing};
 
 // A refusal, by the number that document 01 gives it: 1, 2, 3, 9 and 14.
 pub enum Fault {
@@ -45,7 +45,7 @@ pub fn aes128_block(key: [u8; 16], block: [u8; 16]) -> [u8; 16]
 // is no tag's length (14), more than 128 authenticated or payload octets (2) and an output without
 // room (1); out is then as it stood.
 pub fn seal(m: usize, key: [u8; 16], nonce: [u8; 13], a: &[u8], p: &[u8], out: &mut [u8]) -> Answer
-    ensures { λ r. ⌜ gave (told r) (now (out .exit)) ≡ sealing m key nonce (now (a .entry)) (now (p .entry)) (now (out .entry)) ⌝ }
+    ensures { λ r. ⌜ product (counted r) (now (out .exit)) ≡ sealing m key nonce (now (a .entry)) (now (p .entry)) (now (out .entry)) ⌝ }
 {
     if !ccm::tag_length(m) {
         return Answer::Refused(Fault::Argument);
@@ -77,7 +77,7 @@ pub fn unseal(
     c: &[u8],
     out: &mut [u8],
 ) -> Answer
-    ensures { λ r. ⌜ gave (told r) (now (out .exit)) ≡ opening m key nonce (now (a .entry)) (now (c .entry)) (now (out .entry)) ⌝ }
+    ensures { λ r. ⌜ product (counted r) (now (out .exit)) ≡ opening m key nonce (now (a .entry)) (now (c .entry)) (now (out .entry)) ⌝ }
 {
     if !ccm::tag_length(m) {
         return Answer::Refused(Fault::Argument);
@@ -101,7 +101,7 @@ pub fn unseal(
 
 // AES-MMO of up to 256 octets; more of them is 2.
 pub fn hash(d: &[u8]) -> Hashed
-    ensures { λ r. ⌜ gave (told (r .answer)) (r .octets) ≡ hashing (now (d .entry)) ⌝ }
+    ensures { λ r. ⌜ product (counted (r .answer)) (r .octets) ≡ hashing (now (d .entry)) ⌝ }
 {
     if 256 < d.len() {
         return Hashed {
@@ -119,7 +119,7 @@ pub fn hash(d: &[u8]) -> Hashed
 
 // The keyed hash, HMAC over AES-MMO, of up to 240 octets; more of them is 2.
 pub fn keyed_hash(key: [u8; 16], d: &[u8]) -> Hashed
-    ensures { λ r. ⌜ gave (told (r .answer)) (r .octets) ≡ keyedHashing key (now (d .entry)) ⌝ }
+    ensures { λ r. ⌜ product (counted (r .answer)) (r .octets) ≡ keyedHashing key (now (d .entry)) ⌝ }
 {
     if 240 < d.len() {
         return Hashed {

@@ -10,8 +10,8 @@ use lib.Dec.{eqb, leb, ltb}
 use lib.ListN.{length}
 use borrow.Author.Tests.{ltb-false, eqb-true, eqb-false, not-true, not-false}
 use Rattle.settings.specs.Settings.{Settings}
-use Rattle.octets.proofs.Choices.{choose}
-use Rattle.octets.specs.Choice.{if_then_else_, both}
+use Rattle.octets.proofs.Choices.{choose, both-parts}
+use Rattle.octets.specs.Choice.{if_then_else_}
 use Rattle.octets.specs.Lists.{at}
 use Rattle.frames.specs.declared.Secured.{Secured}
 use Rattle.frames.specs.declared.Layer.{Layer}
@@ -38,10 +38,6 @@ plain-secured : {A : Type 0} (h : ℕ) (s : Secured) → plain h ≡ secured s �
 plain-secured h s e = let z : _≡_ {A = ℕ} 0 1 = cc in absurd (omega arith)
 
 -- ---- what a control tells
-
-both-parts : (p q : Bool) → both p q ≡ true → (p ≡ true) × (q ≡ true)
-both-parts true q e = (refl, e)
-both-parts false q e = let z : _≡_ {A = ℕ} 0 1 = cc in absurd (omega arith)
 
 -- the auxiliary header's length: a network frame's has sender and key sequence number, an APS frame's may have the sender
 abbrev pub Auxed : Layer → ℕ → Type 0

@@ -1,3 +1,4 @@
+pub mod Fairly
 pub mod Parts
 pub mod Authentic
 pub mod Opened

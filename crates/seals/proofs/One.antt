@@ -3,11 +3,12 @@
 use mathlib.Core.Path.{_≡_, refl, sym, ap, _∙_}
 use Rattle.seals.specs.declared.Unsealed.{Unsealed}
 use Rattle.seals.specs.declared.Unsealed.the-variants.{Plain, Forged}
-use Rattle.seals.specs.declared.Sealed.{Sealed}
-use Rattle.seals.specs.declared.Sealed.the-variants.{Octets, Nothing}
-use Rattle.seals.specs.Sealing.{Told, made, refused, toldUnsealed, toldSealed}
+use Rattle.seals.specs.declared.Enclosed.{Enclosed}
+use Rattle.seals.specs.declared.Enclosed.the-variants.{Octets, Nothing}
+use Rattle.cipher.specs.Answers.{Count, made, refused}
+use Rattle.seals.specs.Sealing.{toldUnsealed, toldEnclosed}
 
-unsealedOf : Told → Unsealed
+unsealedOf : Count → Unsealed
 unsealedOf (made n) = Plain n
 unsealedOf (refused n) = Forged
 
@@ -19,14 +20,14 @@ unsealed-back Forged = refl
 pub unsealed-one : (r s : Unsealed) → toldUnsealed r ≡ toldUnsealed s → r ≡ s
 unsealed-one r s e = sym (unsealed-back r) ∙ ap unsealedOf e ∙ unsealed-back s
 
-sealedOf : Told → Sealed
-sealedOf (made n) = Octets n
-sealedOf (refused n) = Nothing
+enclosedOf : Count → Enclosed
+enclosedOf (made n) = Octets n
+enclosedOf (refused n) = Nothing
 
-sealed-back : (r : Sealed) → sealedOf (toldSealed r) ≡ r
-unfolding sealedOf
-sealed-back (Octets n) = refl
-sealed-back Nothing = refl
+enclosed-back : (r : Enclosed) → enclosedOf (toldEnclosed r) ≡ r
+unfolding enclosedOf
+enclosed-back (Octets n) = refl
+enclosed-back Nothing = refl
 
-pub sealed-one : (r s : Sealed) → toldSealed r ≡ toldSealed s → r ≡ s
-sealed-one r s e = sym (sealed-back r) ∙ ap sealedOf e ∙ sealed-back s
+pub enclosed-one : (r s : Enclosed) → toldEnclosed r ≡ toldEnclosed s → r ≡ s
+enclosed-one r s e = sym (enclosed-back r) ∙ ap enclosedOf e ∙ enclosed-back s

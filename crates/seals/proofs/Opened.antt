@@ -9,68 +9,65 @@ use lib.Dec.{leb}
 use lib.ListN.{length, take, drop, length-append, length-drop, length-set, take-append-drop}
 use lib.Seq.{length-take-le}
 use borrow.Author.Tests.{leb-true, le-leb}
-use Rattle.octets.specs.Choice.{both}
+use Rattle.octets.proofs.Choices.{both-parts}
+use Rattle.settings.specs.Settings.{Settings, longest}
+use Rattle.octets.specs.Keys.{Key}
 use Rattle.octets.specs.Lists.{onto}
-use Rattle.seals.specs.Sealing.{authenticatedOf, bodyOf, nonceFor, messageOf, plainFrame, gave, sound, unsealedOnto, unsealing, longest, made as Seals·made, refused as Seals·refused}
+use Rattle.seals.specs.Sealing.{Fair, authenticatedOf, bodyOf, nonceFor, messageOf, plainFrame, sound, unsealedOnto, unsealing}
 use Rattle.cipher.specs.Aes.{aes128}
-use Rattle.cipher.specs.Ccm.{Opened, valid, invalid}
+use Rattle.cipher.specs.Ccm.{Verdict, valid, invalid}
 use Rattle.cipher.specs.declared.Fault.{Fault}
 use Rattle.cipher.specs.declared.Answer.{Answer}
 use Rattle.cipher.specs.declared.Answer.the-variants.{Made, Refused}
-use Rattle.cipher.specs.Answers.{opening, openedOnto, made, refused, told, number, Outcome as Cipher·Outcome, gave as Cipher·gave}
-use Rattle.cipher.proofs.Lengths.{tag-four, opening-judged, valid-length}
+use Rattle.cipher.specs.Answers.{opening, openedOnto, made, refused, counted, number, Product, product}
+use Rattle.cipher.proofs.Lengths.{opening-judged, valid-length}
 use Rattle.frames.specs.declared.Layer.{Layer}
 use Rattle.frames.specs.declared.Secured.{Secured}
-use Rattle.frames.specs.Security.{tagOctets}
 use Rattle.frames.specs.Making.{laid, plainHeader}
 use Rattle.frames.proofs.Layings.{laid-onto}
 use Rattle.seals.proofs.Parts.{onto-more}
 use Rattle.seals.proofs.Authentic.{authenticated-length, scratch-front}
 
-pub record Sound (f : List ℕ) (s : Secured) : Type 0 where
+pub record Sound (z : Settings) (f : List ℕ) (s : Secured) : Type 0 where
   pub headed : 2 ≤ s .header
-  pub whole : s .header + s .aux + 4 ≤ length f
-  pub short : length f ≤ 116
+  pub whole : s .header + s .aux + z .tag ≤ length f
+  pub short : length f ≤ longest
 
-pub both-true : (a b : Bool) → both a b ≡ true → (a ≡ true) × (b ≡ true)
-both-true true b e = (refl, e)
-both-true false b e = let z : _≡_ {A = ℕ} 0 1 = cc in absurd (omega arith)
-
-pub sound-tells : (f : List ℕ) (s : Secured) → sound f s ≡ true → Sound f s
+pub sound-tells : (z : Settings) (f : List ℕ) (s : Secured) → sound z f s ≡ true → Sound z f s
 unfolding sound
-sound-tells f s e =
-    let p = both-true (leb 2 (s .header)) _ e in
-    let q = both-true (leb (s .header + s .aux + tagOctets) (length f)) (leb (length f) longest) (p .1) in
+sound-tells z f s e =
+    let p = both-parts (leb 2 (s .header)) _ e in
+    let q = both-parts (leb (s .header + s .aux + z .tag) (length f)) (leb (length f) longest) (p .1) in
     record { headed = leb-true _ _ (p .0); whole = leb-true _ _ (q .0); short = leb-true _ _ (q .1) }
 
-pub tells-sound : (f : List ℕ) (s : Secured) → Sound f s → sound f s ≡ true
+pub tells-sound : (z : Settings) (f : List ℕ) (s : Secured) → Sound z f s → sound z f s ≡ true
 unfolding sound
-tells-sound f s t = simp (le-leb _ _ (t .headed), le-leb _ _ (t .whole), le-leb _ _ (t .short))
+tells-sound z f s t = simp (le-leb _ _ (t .headed), le-leb _ _ (t .whole), le-leb _ _ (t .short))
 
-module _ (k : List ℕ) (l : Layer) (f : List ℕ) (s : Secured) (o : List ℕ) (t : Sound f s) (room : 116 ≤ length o) where
+module _ (z : Settings) (fair : Fair z) (k : Key) (l : Layer) (f : List ℕ) (s : Secured) (o : List ℕ) (t : Sound z f s) (room : longest ≤ length o) where
   abbrev both-headers : ℕ
   both-headers = s .header + s .aux
 
-  auth-length : length (authenticatedOf f s) ≡ both-headers
-  auth-length = authenticated-length f (s .header) both-headers (let h = t .whole in omega arith)
+  auth-length : length (authenticatedOf z f s) ≡ both-headers
+  auth-length = authenticated-length z f (s .header) both-headers (let h = t .whole in omega arith)
 
   -- what the cipher was asked is what the definition asks
-  pub asked : (z a n : List ℕ) → length z ≡ 116 → a ≡ laid z f both-headers (authenticatedOf f s) → n ≡ nonceFor s
-      → opening 4 k n (take both-headers a) (drop both-headers f) (drop (s .header) o) ≡ openedOnto (messageOf k f s) (drop (s .header) o)
+  pub asked : (w a n : List ℕ) → length w ≡ longest → a ≡ laid w f both-headers (authenticatedOf z f s) → n ≡ nonceFor z s
+      → opening (z .tag) (k .octets) n (take both-headers a) (drop both-headers f) (drop (s .header) o) ≡ openedOnto (messageOf z k f s) (drop (s .header) o)
   unfolding messageOf
-  asked z a n e q en =
+  asked w a n e q en =
       let h = t .whole in
       let j = t .short in
-      ap₂ (λ (u v : List ℕ). opening 4 k u v (drop both-headers f) (drop (s .header) o)) en
-      (scratch-front z a f (s .header) both-headers (omega arith) (omega arith) q)
-      ∙ opening-judged 4 k (nonceFor s) (authenticatedOf f s) tag-four (omega (arith, auth-length))
+      ap₂ (λ (u v : List ℕ). opening (z .tag) (k .octets) u v (drop both-headers f) (drop (s .header) o)) en
+      (scratch-front z w a f (s .header) both-headers (omega arith) (omega arith) q)
+      ∙ opening-judged (z .tag) (k .octets) (nonceFor z s) (authenticatedOf z f s) (fair .tag) (omega (arith, auth-length))
       (drop both-headers f) (drop (s .header) o)
       (omega (arith, length-drop both-headers f)) (omega (arith, length-drop both-headers f))
       (omega (arith, length-drop both-headers f, length-drop (s .header) o))
 
-  pub unsealing-is : unsealing k l f s o ≡ unsealedOnto l f s o (messageOf k f s)
+  pub unsealing-is : unsealing z k l f s o ≡ unsealedOnto l f s o (messageOf z k f s)
   unfolding unsealing
-  unsealing-is = simp (tells-sound f s t, le-leb _ _ room)
+  unsealing-is = simp (tells-sound z f s t, le-leb _ _ room)
 
   header-length : length (plainHeader l f (s .header)) ≡ s .header
   unfolding plainHeader
@@ -93,80 +90,80 @@ module _ (k : List ℕ) (l : Layer) (f : List ℕ) (s : Secured) (o : List ℕ) 
       ∙ onto-more (plainHeader l f (s .header)) m o
 
   -- a message has what is left of the frame without headers and tag
-  pub message-length : (m : List ℕ) → messageOf k f s ≡ valid m → length m ≡ length f - both-headers - 4
+  pub message-length : (m : List ℕ) → messageOf z k f s ≡ valid m → length m ≡ length f - both-headers - z .tag
   unfolding messageOf
   message-length m e =
       let h = t .whole in
-      valid-length (aes128 k) 4 (nonceFor s) (authenticatedOf f s) (bodyOf f s) m (omega (arith, length-drop both-headers f)) e
-      ∙ ap (λ (n : ℕ). n - 4) (length-drop both-headers f)
+      valid-length (aes128 (k .octets)) (z .tag) (nonceFor z s) (authenticatedOf z f s) (bodyOf f s) m (omega (arith, length-drop both-headers f)) e
+      ∙ ap (λ (n : ℕ). n - z .tag) (length-drop both-headers f)
 
-  pub made-length : (n : ℕ) (y z : List ℕ) → Cipher·gave (made n) y ≡ openedOnto (messageOf k f s) z → n ≡ length f - both-headers - 4
-  made-length n y z e = go (messageOf k f s) refl e
+  pub made-length : (n : ℕ) (y w : List ℕ) → product (made n) y ≡ openedOnto (messageOf z k f s) w → n ≡ length f - both-headers - z .tag
+  made-length n y w e = go (messageOf z k f s) refl e
     where
-      go : (r : Opened) → messageOf k f s ≡ r → Cipher·gave (made n) y ≡ openedOnto r z → n ≡ length f - both-headers - 4
+      go : (r : Verdict) → messageOf z k f s ≡ r → product (made n) y ≡ openedOnto r w → n ≡ length f - both-headers - z .tag
       go (valid m) q g =
-          let a : made n ≡ made (length m) = ap (λ (x : Cipher·Outcome). x .answer) g in
+          let a : made n ≡ made (length m) = ap (λ (x : Product). x .answer) g in
           let u : n ≡ length m = cc in
           u ∙ message-length m q
       go invalid q g =
-          let a : made n ≡ refused 9 = ap (λ (x : Cipher·Outcome). x .answer) g in
+          let a : made n ≡ refused 9 = ap (λ (x : Product). x .answer) g in
           let v : _≡_ {A = ℕ} 0 1 = cc in
           absurd (omega arith)
 
   -- the cipher made n octets
   pub unsealed-made : (n : ℕ) (p q : List ℕ)
-      → Cipher·gave (made n) (drop (s .header) p) ≡ openedOnto (messageOf k f s) (drop (s .header) o) → length p ≡ length o
-      → q ≡ laid p f (s .header) (plainHeader l f (s .header)) → gave (Seals·made (s .header + n)) q ≡ unsealing k l f s o
-  unsealed-made n p q e lp eq = go (messageOf k f s) e ∙ sym unsealing-is
+      → product (made n) (drop (s .header) p) ≡ openedOnto (messageOf z k f s) (drop (s .header) o) → length p ≡ length o
+      → q ≡ laid p f (s .header) (plainHeader l f (s .header)) → product (made (s .header + n)) q ≡ unsealing z k l f s o
+  unsealed-made n p q e lp eq = go (messageOf z k f s) e ∙ sym unsealing-is
     where
-      go : (r : Opened) → Cipher·gave (made n) (drop (s .header) p) ≡ openedOnto r (drop (s .header) o)
-          → gave (Seals·made (s .header + n)) q ≡ unsealedOnto l f s o r
+      go : (r : Verdict) → product (made n) (drop (s .header) p) ≡ openedOnto r (drop (s .header) o)
+          → product (made (s .header + n)) q ≡ unsealedOnto l f s o r
       go (valid m) g =
-          let a : made n ≡ made (length m) = ap (λ (x : Cipher·Outcome). x .answer) g in
+          let a : made n ≡ made (length m) = ap (λ (x : Product). x .answer) g in
           let u : n ≡ length m = cc in
-          let b : drop (s .header) p ≡ onto m (drop (s .header) o) = ap (λ (x : Cipher·Outcome). x .octets) g in
-          ap₂ (λ (y : ℕ) (v : List ℕ). gave (Seals·made y) v) (ap (λ (y : ℕ). s .header + y) u ∙ sym (plain-length m))
+          let b : drop (s .header) p ≡ onto m (drop (s .header) o) = ap (λ (x : Product). x .octets) g in
+          ap₂ (λ (y : ℕ) (v : List ℕ). product (made y) v) (ap (λ (y : ℕ). s .header + y) u ∙ sym (plain-length m))
           (both-laid m p q b lp eq)
       go invalid g =
-          let a : made n ≡ refused 9 = ap (λ (x : Cipher·Outcome). x .answer) g in
-          let z : _≡_ {A = ℕ} 0 1 = cc in
+          let a : made n ≡ refused 9 = ap (λ (x : Product). x .answer) g in
+          let never : _≡_ {A = ℕ} 0 1 = cc in
           absurd (omega arith)
 
   -- the cipher refused
   pub unsealed-not : (n : ℕ) (p : List ℕ)
-      → Cipher·gave (refused n) (drop (s .header) p) ≡ openedOnto (messageOf k f s) (drop (s .header) o)
-      → take (s .header) p ≡ take (s .header) o → gave (Seals·refused 9) p ≡ unsealing k l f s o
-  unsealed-not n p e et = go (messageOf k f s) e ∙ sym unsealing-is
+      → product (refused n) (drop (s .header) p) ≡ openedOnto (messageOf z k f s) (drop (s .header) o)
+      → take (s .header) p ≡ take (s .header) o → product (refused 9) p ≡ unsealing z k l f s o
+  unsealed-not n p e et = go (messageOf z k f s) e ∙ sym unsealing-is
     where
-      go : (r : Opened) → Cipher·gave (refused n) (drop (s .header) p) ≡ openedOnto r (drop (s .header) o)
-          → gave (Seals·refused 9) p ≡ unsealedOnto l f s o r
+      go : (r : Verdict) → product (refused n) (drop (s .header) p) ≡ openedOnto r (drop (s .header) o)
+          → product (refused 9) p ≡ unsealedOnto l f s o r
       go (valid m) g =
-          let a : refused n ≡ made (length m) = ap (λ (x : Cipher·Outcome). x .answer) g in
-          let z : _≡_ {A = ℕ} 0 1 = cc in
+          let a : refused n ≡ made (length m) = ap (λ (x : Product). x .answer) g in
+          let never : _≡_ {A = ℕ} 0 1 = cc in
           absurd (omega arith)
       go invalid g =
-          let b : drop (s .header) p ≡ drop (s .header) o = ap (λ (x : Cipher·Outcome). x .octets) g in
-          ap (gave (Seals·refused 9))
+          let b : drop (s .header) p ≡ drop (s .header) o = ap (λ (x : Product). x .octets) g in
+          ap (product (refused 9))
           (sym (take-append-drop (s .header) p) ∙ ap₂ (λ (u v : List ℕ). u ++ v) et b ∙ take-append-drop (s .header) o)
 
 -- what the cipher answered, r, and what it left in the output, p, are what the definition asks of it
-pub record Unseals (k f : List ℕ) (s : Secured) (o : List ℕ) (r : Answer) (p : List ℕ) : Type 0 where
-  pub fits : Sound f s
-  pub room : 116 ≤ length o
-  pub outcome : Cipher·gave (told r) (drop (s .header) p) ≡ openedOnto (messageOf k f s) (drop (s .header) o)
+pub record Unseals (z : Settings) (k : Key) (f : List ℕ) (s : Secured) (o : List ℕ) (r : Answer) (p : List ℕ) : Type 0 where
+  pub fits : Sound z f s
+  pub room : longest ≤ length o
+  pub outcome : product (counted r) (drop (s .header) p) ≡ openedOnto (messageOf z k f s) (drop (s .header) o)
 
 -- what opening then answers
-module _ {k f : List ℕ} {s : Secured} {o : List ℕ} {r : Answer} {p : List ℕ} (u : Unseals k f s o r p) (l : Layer) where
-  by-answer : (a : Answer) → r ≡ a → Cipher·gave (told a) (drop (s .header) p) ≡ openedOnto (messageOf k f s) (drop (s .header) o)
-  by-answer a e = ap (λ (x : Answer). Cipher·gave (told x) (drop (s .header) p)) (sym e) ∙ u .outcome
+module _ {z : Settings} {k : Key} {f : List ℕ} {s : Secured} {o : List ℕ} {r : Answer} {p : List ℕ} (fair : Fair z) (u : Unseals z k f s o r p) (l : Layer) where
+  by-answer : (a : Answer) → r ≡ a → product (counted a) (drop (s .header) p) ≡ openedOnto (messageOf z k f s) (drop (s .header) o)
+  by-answer a e = ap (λ (x : Answer). product (counted x) (drop (s .header) p)) (sym e) ∙ u .outcome
 
-  pub after-length : (n : ℕ) → r ≡ Made n → n ≡ length f - (s .header + s .aux) - 4
-  after-length n e = made-length k l f s o (u .fits) (u .room) n _ _ (by-answer (Made n) e)
+  pub after-length : (n : ℕ) → r ≡ Made n → n ≡ length f - (s .header + s .aux) - z .tag
+  after-length n e = made-length z fair k l f s o (u .fits) (u .room) n _ _ (by-answer (Made n) e)
 
   pub after-made : (n : ℕ) (q : List ℕ) → r ≡ Made n → length p ≡ length o → q ≡ laid p f (s .header) (plainHeader l f (s .header))
-      → gave (Seals·made (s .header + n)) q ≡ unsealing k l f s o
-  after-made n q e lp eq = unsealed-made k l f s o (u .fits) (u .room) n p q (by-answer (Made n) e) lp eq
+      → product (made (s .header + n)) q ≡ unsealing z k l f s o
+  after-made n q e lp eq = unsealed-made z fair k l f s o (u .fits) (u .room) n p q (by-answer (Made n) e) lp eq
 
   pub after-not : (v : Fault) → r ≡ Refused v → take (s .header) p ≡ take (s .header) o
-      → gave (Seals·refused 9) p ≡ unsealing k l f s o
-  after-not v e et = unsealed-not k l f s o (u .fits) (u .room) (number v) p (by-answer (Refused v) e) et
+      → product (refused 9) p ≡ unsealing z k l f s o
+  after-not v e et = unsealed-not z fair k l f s o (u .fits) (u .room) (number v) p (by-answer (Refused v) e) et

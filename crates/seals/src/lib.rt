@@ -6,10 +6,12 @@ ghost use mathlib.Core.Path.{_≡_};
 ghost use Prim.Native.Nat.{_≤_};
 ghost use mathlib.Core.Bool.{true};
 ghost use lib.ListN.{length, take, drop};
-ghost use Rattle.cipher.specs.Answers.{told, opening};
-ghost use Rattle.cipher.specs.Answers.{gave as Cipher·gave, sealing as Cipher·sealing};
-ghost use Rattle.seals.specs.Sealing.{sound, sentOctets, toldUnsealed, toldSealed, gave, unsealing, looking, sealable};
-ghost use Rattle.seals.specs.Sealing.{sealing as Sealed·sealing};
+ghost use Rattle.settings.specs.Settings.{ours, longest};
+ghost use Rattle.octets.specs.Keys.{theKey};
+ghost use Rattle.cipher.specs.Answers.{counted, product, opening};
+ghost use Rattle.cipher.specs.Answers.{sealing as Cipher·sealing};
+ghost use Rattle.seals.specs.Sealing.{sound, sentOctets, toldUnsealed, toldEnclosed, unsealing, looking, sealable};
+ghost use Rattle.seals.specs.Sealing.{sealing as Seals·sealing};
 
 // The length of the plain frame that was made; or 9, tag wrong. So are told, too, a frame that is
 // not what was announced and an output under 116 octets, which the layers judge before.
@@ -20,13 +22,13 @@ pub enum Unsealed {
 
 // The length of the secured frame that was made; or 14, argument not allowed: an identifier above
 // 3, a header that the frame does not have, no room.
-pub enum Sealed {
+pub enum Enclosed {
     Octets(usize),
     Nothing,
 }
 
 fn is_sound(f: &[u8], s: Secured) -> bool
-    ensures { λ r. ⌜ r ≡ sound (now (f .entry)) s ⌝ }
+    ensures { λ r. ⌜ r ≡ sound ours (now (f .entry)) s ⌝ }
 {
     let h = s.header;
     let x = s.aux;
@@ -39,21 +41,21 @@ fn is_sound(f: &[u8], s: Secured) -> bool
     if f.len() - h < x {
         return false;
     }
-    if f.len() < h + x + 4 {
+    if f.len() < h + x + settings::TAG {
         return false;
     }
-    f.len() <= 116
+    f.len() <= settings::LONGEST
 }
 
 // The plain frame of a secured one, at the start of out, where its tag fits the key. Otherwise out,
 // which has 116 octets or more, is as it stood.
 pub fn unseal(key: [u8; 16], l: Layer, f: &[u8], s: Secured, out: &mut [u8]) -> Unsealed
-    ensures { λ r. ⌜ gave (toldUnsealed r) (now (out .exit)) ≡ unsealing key l (now (f .entry)) s (now (out .entry)) ⌝ }
+    ensures { λ r. ⌜ product (toldUnsealed r) (now (out .exit)) ≡ unsealing ours (theKey key) l (now (f .entry)) s (now (out .entry)) ⌝ }
 {
     if !is_sound(f, s) {
         return Unsealed::Forged;
     }
-    if out.len() < 116 {
+    if out.len() < settings::LONGEST {
         return Unsealed::Forged;
     }
     unseal_sound(key, l, f, s, out)
@@ -70,19 +72,19 @@ fn unseal_body(
     out: &mut [u8],
 ) -> Answer
     requires { ⌜ (n ≤ length (now f)) × (h ≤ length (now out)) ⌝ }
-    ensures { λ r. ⌜ Cipher·gave (told r) (drop h (now (out .exit))) ≡ opening 4 key nonce (now (a .entry)) (drop n (now (f .entry))) (drop h (now (out .entry))) ⌝ }
+    ensures { λ r. ⌜ product (counted r) (drop h (now (out .exit))) ≡ opening (ours .tag) key nonce (now (a .entry)) (drop n (now (f .entry))) (drop h (now (out .entry))) ⌝ }
     ensures { λ _. ⌜ take h (now (out .exit)) ≡ take h (now (out .entry)) ⌝ }
 {
-    cipher::unseal(4, key, nonce, a, &f[n..], &mut out[h..])
+    cipher::unseal(settings::TAG, key, nonce, a, &f[n..], &mut out[h..])
 }
 
 fn unseal_sound(key: [u8; 16], l: Layer, f: &[u8], s: Secured, out: &mut [u8]) -> Unsealed
-    requires { ⌜ (sound (now f) s ≡ true) × (116 ≤ length (now out)) ⌝ }
-    ensures { λ r. ⌜ gave (toldUnsealed r) (now (out .exit)) ≡ unsealing key l (now (f .entry)) s (now (out .entry)) ⌝ }
+    requires { ⌜ (sound ours (now f) s ≡ true) × (longest ≤ length (now out)) ⌝ }
+    ensures { λ r. ⌜ product (toldUnsealed r) (now (out .exit)) ≡ unsealing ours (theKey key) l (now (f .entry)) s (now (out .entry)) ⌝ }
 {
     let h = s.header;
     let n = h + s.aux;
-    let mut a = [0u8; 116];
+    let mut a = [0u8; settings::LONGEST];
     frames::lay_authenticated(&mut a, f, h, n);
     let nonce = frames::nonce(s.sender, s.counter, s.control);
     match unseal_body(key, nonce, &a[..n], f, n, h, out) {
@@ -96,9 +98,9 @@ fn unseal_sound(key: [u8; 16], l: Layer, f: &[u8], s: Secured, out: &mut [u8]) -
 
 // Whether the tag of a secured frame fits a key. It changes nothing.
 pub fn look(key: [u8; 16], f: &[u8], s: Secured) -> bool
-    ensures { λ r. ⌜ r ≡ looking key (now (f .entry)) s ⌝ }
+    ensures { λ r. ⌜ r ≡ looking ours (theKey key) (now (f .entry)) s ⌝ }
 {
-    let mut out = [0u8; 116];
+    let mut out = [0u8; settings::LONGEST];
     match unseal(key, Layer::Aps, f, s, &mut out) {
         Unsealed::Plain(_) => true,
         Unsealed::Forged => false,
@@ -110,13 +112,13 @@ fn sent_octets(identifier: u8) -> usize
     ensures { λ r. ⌜ (r ≡ sentOctets identifier) × (r ≤ 14) ⌝ }
 {
     if identifier == 1 {
-        return 14;
+        return settings::NETWORK_AUX;
     }
-    13
+    settings::APS_AUX
 }
 
 fn is_sealable(identifier: u8, f: &[u8], h: usize) -> bool
-    ensures { λ r. ⌜ r ≡ sealable identifier (now (f .entry)) h ⌝ }
+    ensures { λ r. ⌜ r ≡ sealable ours identifier (now (f .entry)) h ⌝ }
 {
     if h < 2 {
         return false;
@@ -124,10 +126,10 @@ fn is_sealable(identifier: u8, f: &[u8], h: usize) -> bool
     if f.len() < h {
         return false;
     }
-    if 116 < f.len() {
+    if settings::LONGEST < f.len() {
         return false;
     }
-    f.len() + sent_octets(identifier) + 4 <= 116
+    f.len() + sent_octets(identifier) + settings::TAG <= settings::LONGEST
 }
 
 // The secured frame of a plain frame f with h octets of header, at the start of out, with the
@@ -144,17 +146,17 @@ pub fn seal(
     f: &[u8],
     h: usize,
     out: &mut [u8],
-) -> Sealed
-    ensures { λ r. ⌜ gave (toldSealed r) (now (out .exit)) ≡ Sealed·sealing key l identifier counter sender sequence (now (f .entry)) h (now (out .entry)) ⌝ }
+) -> Enclosed
+    ensures { λ r. ⌜ product (toldEnclosed r) (now (out .exit)) ≡ Seals·sealing ours (theKey key) l identifier counter sender sequence (now (f .entry)) h (now (out .entry)) ⌝ }
 {
     if 3 < identifier {
-        return Sealed::Nothing;
+        return Enclosed::Nothing;
     }
     if !is_sealable(identifier, f, h) {
-        return Sealed::Nothing;
+        return Enclosed::Nothing;
     }
-    if out.len() < 116 {
-        return Sealed::Nothing;
+    if out.len() < settings::LONGEST {
+        return Enclosed::Nothing;
     }
     seal_sound(key, l, identifier, counter, sender, sequence, f, h, out)
 }
@@ -170,19 +172,19 @@ fn seal_sound(
     f: &[u8],
     h: usize,
     out: &mut [u8],
-) -> Sealed
-    requires { ⌜ (identifier ≤ 3) × ((sealable identifier (now f) h ≡ true) × (116 ≤ length (now out))) ⌝ }
-    ensures { λ r. ⌜ gave (toldSealed r) (now (out .exit)) ≡ Sealed·sealing key l identifier counter sender sequence (now (f .entry)) h (now (out .entry)) ⌝ }
+) -> Enclosed
+    requires { ⌜ (identifier ≤ 3) × ((sealable ours identifier (now f) h ≡ true) × (longest ≤ length (now out))) ⌝ }
+    ensures { λ r. ⌜ product (toldEnclosed r) (now (out .exit)) ≡ Seals·sealing ours (theKey key) l identifier counter sender sequence (now (f .entry)) h (now (out .entry)) ⌝ }
 {
     let n = h + sent_octets(identifier);
     frames::lay_secured_header(out, l, f, h);
     frames::lay_auxiliary(out, h, identifier, counter, sender, sequence);
-    let mut a = [0u8; 116];
+    let mut a = [0u8; settings::LONGEST];
     frames::lay_authenticated(&mut a, out, h, n);
     let nonce = frames::nonce(sender, counter, frames::wire_control(identifier));
     match seal_body(key, nonce, &a[..n], f, h, n, out) {
-        Answer::Made(m) => Sealed::Octets(n + m),
-        Answer::Refused(_) => Sealed::Nothing,
+        Answer::Made(m) => Enclosed::Octets(n + m),
+        Answer::Refused(_) => Enclosed::Nothing,
     }
 }
 
@@ -197,8 +199,8 @@ fn seal_body(
     out: &mut [u8],
 ) -> Answer
     requires { ⌜ (h ≤ length (now f)) × (n ≤ length (now out)) ⌝ }
-    ensures { λ r. ⌜ Cipher·gave (told r) (drop n (now (out .exit))) ≡ Cipher·sealing 4 key nonce (now (a .entry)) (drop h (now (f .entry))) (drop n (now (out .entry))) ⌝ }
+    ensures { λ r. ⌜ product (counted r) (drop n (now (out .exit))) ≡ Cipher·sealing (ours .tag) key nonce (now (a .entry)) (drop h (now (f .entry))) (drop n (now (out .entry))) ⌝ }
     ensures { λ _. ⌜ take n (now (out .exit)) ≡ take n (now (out .entry)) ⌝ }
 {
-    cipher::seal(4, key, nonce, a, &f[h..], &mut out[n..])
+    cipher::seal(settings::TAG, key, nonce, a, &f[h..], &mut out[n..])
 }

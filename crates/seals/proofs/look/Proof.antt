@@ -2,6 +2,8 @@ use mathlib.Core.Path.{sym, ap, _∙_}
 use native.Mathlib.Omega.{arith}
 use lib.ListN.{replicate}
 use borrow.Author.Needs.{needs}
+use Rattle.settings.specs.Settings.{ours, longest}
+use Rattle.octets.specs.Keys.{theKey}
 use Rattle.seals.specs.Sealing.{toldUnsealed}
 use Rattle.seals.proofs.Looked.{looked, isMade}
 use Rattle.frames.specs.declared.Layer.the-variants.{Aps}
@@ -24,15 +26,15 @@ returns : tie.Need-returns
 returns c =
     let after-unseal : tie.After-unseal = search in
     let start : tie.Start = search in
-    ap (λ r. isMade (toldUnsealed r)) (sym (c .enum-told .given .1)) ∙ looked (start .args .key) Aps (start .args .f .now) (start .args .s)
-    (replicate 116 0) (omega arith) (after-unseal .unseal .result) _ (after-unseal .unseal .ensures)
+    ap (λ r. isMade (toldUnsealed r)) (sym (c .enum-told .given .1)) ∙ looked ours (theKey (start .args .key)) Aps (start .args .f .now) (start .args .s)
+    (replicate longest 0) (omega arith) (after-unseal .unseal .result) _ (after-unseal .unseal .ensures)
 
 returns-2 : tie.Need-returns-2
 returns-2 c =
     let after-unseal : tie.After-unseal = search in
     let start : tie.Start = search in
-    ap (λ r. isMade (toldUnsealed r)) (sym (c .enum-told2 .given .1)) ∙ looked (start .args .key) Aps (start .args .f .now) (start .args .s)
-    (replicate 116 0) (omega arith) (after-unseal .unseal .result) _ (after-unseal .unseal .ensures)
+    ap (λ r. isMade (toldUnsealed r)) (sym (c .enum-told2 .given .1)) ∙ looked ours (theKey (start .args .key)) Aps (start .args .f .now) (start .args .s)
+    (replicate longest 0) (omega arith) (after-unseal .unseal .result) _ (after-unseal .unseal .ensures)
 
 pub look-spec : {M : Type 1} → statement M
 look-spec =

@@ -1,6 +1,7 @@
 use mathlib.Core.Path.{ap, ap₂, _∙_}
 use borrow.Author.Needs.{needs}
-use Rattle.cipher.specs.Answers.{sealing, told, gave}
+use Rattle.settings.specs.Settings.{ours}
+use Rattle.cipher.specs.Answers.{sealing, counted, product}
 use Rattle.seals.proofs.Parts.{tail-part, back-front, back-tail}
 use Rattle.seals.proofs.seal_body.Statement.{statement}
 use Rattle.seals.proofs.seal_body.Tie as tie
@@ -35,8 +36,8 @@ returns c =
     let y = x .args in
     let after-seal : tie.After-seal = search in
     let o = after-seal .seal .last in (
-      ap (gave (told (after-seal .seal .result))) (back-tail (y .out .now) _ (y .n) (x .pre .1)) ∙ after-seal .seal .ensures
-          ∙ ap₂ (sealing 4 (y .key) (y .nonce) (y .a .now)) (tail-part (y .f .now) (y .h)) (tail-part (y .out .now) (y .n)),
+      ap (product (counted (after-seal .seal .result))) (back-tail (y .out .now) _ (y .n) (x .pre .1)) ∙ after-seal .seal .ensures
+          ∙ ap₂ (sealing (ours .tag) (y .key) (y .nonce) (y .a .now)) (tail-part (y .f .now) (y .h)) (tail-part (y .out .now) (y .n)),
       back-front (y .out .now) (o .1 .1 .1 .1 .1 .0) (y .n) (x .pre .1),
     )
 

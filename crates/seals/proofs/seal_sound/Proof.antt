@@ -2,13 +2,16 @@ use mathlib.Core.Path.{refl}
 use native.Mathlib.Omega.{arith}
 use lib.ListN.{length-take, replicate}
 use borrow.Author.Needs.{needs}
+use Rattle.settings.specs.Settings.{ours, longest}
+use Rattle.octets.specs.Keys.{theKey}
+use Rattle.seals.proofs.Fairly.{ours-fair}
 use Rattle.seals.proofs.Securing.{Sealable, sealable-tells, Secures, sealed-by, after-length, after-made, after-not}
 use Rattle.seals.proofs.seal_sound.Statement.{statement}
 use Rattle.seals.proofs.seal_sound.Tie as tie
 
 -- what may be sealed
-fits : (x : tie.Start) → Sealable (x .args .identifier) (x .args .f .now) (x .args .h)
-fits x = sealable-tells _ _ _ (x .pre .1 .0)
+fits : (x : tie.Start) → Sealable ours (x .args .identifier) (x .args .f .now) (x .args .h)
+fits x = sealable-tells ours _ _ _ (x .pre .1 .0)
 
 sent-octets-requires : tie.Need-sent-octets-requires
 sent-octets-requires c κs = search needs
@@ -61,7 +64,7 @@ secures-there : (c : tie.After-seal-body)
     let start : tie.Start = search in
     let y = start .args in
     let w : tie.After-sent-octets = search in
-    Secures (y .key) (y .l) (y .identifier) (y .counter) (y .sender) (y .sequence) (y .f .now) (y .h) (y .out .now)
+    Secures ours (theKey (y .key)) (y .l) (y .identifier) (y .counter) (y .sender) (y .sequence) (y .f .now) (y .h) (y .out .now)
     (w .sent-octets .result) (c .seal-body .result) (c .seal-body .last .1 .1 .1 .1 .1 .1 .0)
 secures-there c =
     let x : tie.Start = search in
@@ -72,8 +75,8 @@ secures-there c =
     let after-lay-auxiliary : tie.After-lay-auxiliary = search in
     let after-lay-secured-header : tie.After-lay-secured-header = search in
     let after-sent-octets : tie.After-sent-octets = search in
-    sealed-by (y .key) (y .l) (y .identifier) (y .counter) (y .sender) (y .sequence) (y .f .now) (y .h) (y .out .now) (x .pre .0) (fits x)
-    (x .pre .1 .1) (replicate 116 0) (after-sent-octets .sent-octets .ensures .0) (after-lay-secured-header .lay-secured-header .ensures)
+    sealed-by ours (theKey (y .key)) (y .l) (y .identifier) (y .counter) (y .sender) (y .sequence) (y .f .now) (y .h) (y .out .now) (x .pre .0) (fits x)
+    (x .pre .1 .1) ours-fair (replicate longest 0) (after-sent-octets .sent-octets .ensures .0) (after-lay-secured-header .lay-secured-header .ensures)
     (after-lay-auxiliary .lay-auxiliary .ensures) refl (after-lay-authenticated .lay-authenticated .ensures)
     (after-wire-control .wire-control .ensures) (after-nonce .nonce .ensures) (c .seal-body .ensures .0) (c .seal-body .ensures .1)
 

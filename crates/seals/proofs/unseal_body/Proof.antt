@@ -1,6 +1,7 @@
 use mathlib.Core.Path.{ap, ap₂, _∙_}
 use borrow.Author.Needs.{needs}
-use Rattle.cipher.specs.Answers.{opening, told, gave}
+use Rattle.settings.specs.Settings.{ours}
+use Rattle.cipher.specs.Answers.{opening, counted, product}
 use Rattle.seals.proofs.Parts.{tail-part, back-front, back-tail}
 use Rattle.seals.proofs.unseal_body.Statement.{statement}
 use Rattle.seals.proofs.unseal_body.Tie as tie
@@ -35,8 +36,8 @@ returns c =
     let y = x .args in
     let after-unseal : tie.After-unseal = search in
     let o = after-unseal .unseal .last in (
-      ap (gave (told (after-unseal .unseal .result))) (back-tail (y .out .now) _ (y .h) (x .pre .1)) ∙ after-unseal .unseal .ensures
-          ∙ ap₂ (opening 4 (y .key) (y .nonce) (y .a .now)) (tail-part (y .f .now) (y .n)) (tail-part (y .out .now) (y .h)),
+      ap (product (counted (after-unseal .unseal .result))) (back-tail (y .out .now) _ (y .h) (x .pre .1)) ∙ after-unseal .unseal .ensures
+          ∙ ap₂ (opening (ours .tag) (y .key) (y .nonce) (y .a .now)) (tail-part (y .f .now) (y .n)) (tail-part (y .out .now) (y .h)),
       back-front (y .out .now) (o .1 .1 .1 .1 .1 .0) (y .h) (x .pre .1),
     )
 

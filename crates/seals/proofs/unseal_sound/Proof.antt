@@ -2,13 +2,16 @@ use mathlib.Core.Path.{refl, _∙_}
 use native.Mathlib.Omega.{arith}
 use lib.ListN.{length-take, replicate}
 use borrow.Author.Needs.{needs}
+use Rattle.settings.specs.Settings.{ours, longest}
+use Rattle.octets.specs.Keys.{theKey}
+use Rattle.seals.proofs.Fairly.{ours-fair}
 use Rattle.seals.proofs.Opened.{Sound, sound-tells, asked, Unseals, after-length, after-made, after-not}
 use Rattle.seals.proofs.unseal_sound.Statement.{statement}
 use Rattle.seals.proofs.unseal_sound.Tie as tie
 
 -- what may be opened
-fits : (x : tie.Start) → Sound (x .args .f .now) (x .args .s)
-fits x = sound-tells _ _ (x .pre .0)
+fits : (x : tie.Start) → Sound ours (x .args .f .now) (x .args .s)
+fits x = sound-tells ours _ _ (x .pre .0)
 
 add-n : tie.Need-add-n
 add-n c = let t = fits (search) in omega arith
@@ -48,7 +51,7 @@ unseals-there : (c : tie.After-unseal-body)
     →
     let start : tie.Start = search in
     let y = start .args in
-    Unseals (y .key) (y .f .now) (y .s) (y .out .now) (c .unseal-body .result) (c .unseal-body .last .1 .1 .1 .1 .1 .1 .0)
+    Unseals ours (theKey (y .key)) (y .f .now) (y .s) (y .out .now) (c .unseal-body .result) (c .unseal-body .last .1 .1 .1 .1 .1 .1 .0)
 unseals-there c =
     let x : tie.Start = search in
     let y = x .args in
@@ -59,7 +62,7 @@ unseals-there c =
       room = x .pre .1;
       outcome =
           c .unseal-body .ensures .0
-          ∙ asked (y .key) (y .l) (y .f .now) (y .s) (y .out .now) (fits x) (x .pre .1) (replicate 116 0) _ _ refl
+          ∙ asked ours ours-fair (theKey (y .key)) (y .l) (y .f .now) (y .s) (y .out .now) (fits x) (x .pre .1) (replicate longest 0) _ _ refl
           (after-lay-authenticated .lay-authenticated .ensures) (after-nonce .nonce .ensures);
     }
 
@@ -68,7 +71,7 @@ add-t23 c =
     let t = fits (search) in
     let start : tie.Start = search in
     let after-m : tie.After-m = search in
-    omega (arith, after-length (unseals-there (search)) (start .args .l) (after-m .m .given .0 .0) (after-m .m .given .1))
+    omega (arith, after-length ours-fair (unseals-there (search)) (start .args .l) (after-m .m .given .0 .0) (after-m .m .given .1))
 
 enum-told : tie.Need-enum-told
 enum-told c = search needs
@@ -82,7 +85,7 @@ returns c =
     let after-lay-plain-header : tie.After-lay-plain-header = search in
     let after-m : tie.After-m = search in
     let after-unseal-body : tie.After-unseal-body = search in
-    after-made (unseals-there (search)) (start .args .l) (after-m .m .given .0 .0) _ (after-m .m .given .1)
+    after-made ours-fair (unseals-there (search)) (start .args .l) (after-m .m .given .0 .0) _ (after-m .m .given .1)
     (after-unseal-body .unseal-body .kept .1 .1 .1 .1 .1 .1 .0) (after-lay-plain-header .lay-plain-header .ensures)
 
 same-length-2 : tie.Need-same-length-2
@@ -92,7 +95,7 @@ returns-2 : tie.Need-returns-2
 returns-2 c =
     let start : tie.Start = search in
     let after-unseal-body : tie.After-unseal-body = search in
-    after-not (unseals-there (search)) (start .args .l) _ (c .enum-told .given .1) (after-unseal-body .unseal-body .ensures .1)
+    after-not ours-fair (unseals-there (search)) (start .args .l) _ (c .enum-told .given .1) (after-unseal-body .unseal-body .ensures .1)
 
 pub unseal-sound-spec : {M : Type 1} → statement M
 unseal-sound-spec =

@@ -16,11 +16,11 @@ abbrev μ-loop : tie.MeasureT-loop
 loop-holds : tie.Need-loop-holds Inv-loop μ-loop
 loop-holds c = none _ _ _ _ refl
 
-add-octet-at : tie.Need-add-octet-at Inv-loop μ-loop
-add-octet-at c = search needs
+add-octet : tie.Need-add-octet Inv-loop μ-loop
+add-octet c = search needs
 
-octet-at-requires : tie.Need-octet-at-requires Inv-loop μ-loop
-octet-at-requires c κs = search needs
+octet-requires : tie.Need-octet-requires Inv-loop μ-loop
+octet-requires c κs = search needs
 
 array-write-t : tie.Need-array-write-t Inv-loop μ-loop
 array-write-t c = search needs
@@ -32,7 +32,7 @@ loop-less : tie.Need-loop-less Inv-loop μ-loop
 loop-less c = search needs
 
 loop-again : tie.Need-loop-again Inv-loop μ-loop
-loop-again c = more _ _ _ _ _ _ (c .before .before .loop .inv) (search needs) (c .octet-at .ensures)
+loop-again c = more _ _ _ _ _ _ (c .before .before .loop .inv) (search needs) (c .octet .ensures)
 
 returns : tie.Need-returns Inv-loop μ-loop
 unfolding blockFrom
@@ -45,8 +45,8 @@ padded-block-spec =
     Inv-loop
     μ-loop
     loop-holds
-    add-octet-at
-    octet-at-requires
+    add-octet
+    octet-requires
     array-write-t
     add-j
     loop-less

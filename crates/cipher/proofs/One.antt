@@ -8,7 +8,7 @@ use Rattle.cipher.specs.declared.Fault.{Fault}
 use Rattle.cipher.specs.declared.Fault.the-variants.{Room, Long, Short, Forged, Argument}
 use Rattle.cipher.specs.declared.Answer.{Answer}
 use Rattle.cipher.specs.declared.Answer.the-variants.{Made, Refused}
-use Rattle.cipher.specs.Answers.{number, Told, made, refused, told}
+use Rattle.cipher.specs.Answers.{number, Count, made, refused, counted}
 
 faultOf : ℕ → Fault
 faultOf n = if eqb n 1 then Room else (if eqb n 2 then Long else (if eqb n 3 then Short else (if eqb n 9 then Forged else Argument)))
@@ -21,14 +21,14 @@ fault-back Short = refl
 fault-back Forged = refl
 fault-back Argument = refl
 
-answerOf : Told → Answer
+answerOf : Count → Answer
 answerOf (made n) = Made n
 answerOf (refused n) = Refused (faultOf n)
 
-told-back : (r : Answer) → answerOf (told r) ≡ r
+count-back : (r : Answer) → answerOf (counted r) ≡ r
 unfolding answerOf
-told-back (Made n) = refl
-told-back (Refused f) = ap Refused (fault-back f)
+count-back (Made n) = refl
+count-back (Refused f) = ap Refused (fault-back f)
 
-pub told-one : (r s : Answer) → told r ≡ told s → r ≡ s
-told-one r s e = sym (told-back r) ∙ ap answerOf e ∙ told-back s
+pub count-one : (r s : Answer) → counted r ≡ counted s → r ≡ s
+count-one r s e = sym (count-back r) ∙ ap answerOf e ∙ count-back s
