@@ -32,8 +32,7 @@ unfoldable pub spent : Board → Board
 spent b = withOutgoing b (raised (b .outgoing))
 
 -- the outgoing counter behind an answer: sealing a frame "raises the outgoing counter by 1", a refusal leaves it ("state, lists
--- and output stay"), and opening and writing a command have
--- no part in it
+-- and output stay"), and neither opening nor writing a command has part in it
 abbrev pub counterAfter : FrameTold → ℕ → ℕ
 counterAfter (sealed n) c = raised c
 counterAfter (turnedDown n) c = c
@@ -49,17 +48,18 @@ pub record Framed : Type 0 where
 abbrev pub framed : FrameTold → Board → List ℕ → Framed
 framed t b o = record { answer = t; board = b; out = o }
 
--- ---- sealing, once the key is found
+-- ---- what is left of sealing once the key is found, at either layer
 
 -- what sealing needs of the board
 abbrev pub sendingOf : Board → Sending
 sendingOf b = record { own = b .own; counter = b .outgoing }
 
--- 7
+-- 7: "counter 4,294,967,295, heard or own"
 unfoldable pub maySend : Sending → Told
 maySend s = if eqb (s .counter) top then refused 7 else done
 
--- the secured frame x goes out, "at the start of the output"; or "state, lists and output stay"
+-- "writes the secured frame" x "likewise", which is "at the start of the output", "answers the length, and raises the outgoing
+-- counter by 1"; or "state, lists and output stay"
 abbrev pub sendAs : Board → List ℕ → List ℕ → Told → Framed
 sendAs b x o done = framed (sealed (length x)) (spent b) (onto x o)
 sendAs b x o (refused n) = framed (turnedDown n) b o

@@ -20,26 +20,26 @@ pub fn sending_of(board: Board) -> Sending
 }
 
 // Whether a frame may go out: 7 where the counter is at its top.
-pub fn may_send(s: Sending) -> Outcome
-    ensures { λ r. ⌜ told r ≡ maySend s ⌝ }
+pub fn may_send(sending: Sending) -> Outcome
+    ensures { λ r. ⌜ told r ≡ maySend sending ⌝ }
 {
-    if s.counter == TOP {
+    if sending.counter == TOP {
         return Outcome::Refused(Refusal::Top);
     }
     Outcome::Done
 }
 
 // The outgoing counter behind an answer: sealing raises it by 1, and at its top it stays.
-pub fn counter_after(answer: Sealed, n: u32) -> u32
-    ensures { λ r. ⌜ r ≡ counterAfter (toldSealed answer) n ⌝ }
+pub fn counter_after(answer: Sealed, counter: u32) -> u32
+    ensures { λ r. ⌜ r ≡ counterAfter (toldSealed answer) counter ⌝ }
 {
     match answer {
         Sealed::Frame(_) => {
-            if n == TOP {
-                return n;
+            if counter == TOP {
+                return counter;
             }
-            n + 1
+            counter + 1
         }
-        Sealed::Refused(_) => n,
+        Sealed::Refused(_) => counter,
     }
 }
