@@ -10,12 +10,13 @@ use native.Mathlib.Omega.{arith}
 use lib.Dec.{eqb}
 use lib.ListN.{length, getD}
 use borrow.Author.Tests.{eqb-true}
+use Rattle.settings.specs.Settings.{Settings}
 use Rattle.octets.specs.Choice.{if_then_else_, both}
 use Rattle.board.specs.declared.Place.the-variants.{At, Absent}
 use Rattle.board.specs.Places.{firstAt}
 use Rattle.board.specs.declared.Slot.{Slot}
 use Rattle.board.specs.declared.Link.{Link}
-use Rattle.board.specs.Rows.{findRow, listsFit}
+use Rattle.board.specs.Rows.{Lists, findRow, listsFit}
 use Rattle.board.specs.State.{slotAt, linkAt, carries, pairs}
 use Rattle.board.specs.Requests.{slotOf, linkOf, freeLink}
 
@@ -107,10 +108,11 @@ pub free-place : (ls : List Link) (i : ℕ) → freeLink ls ≡ At i → i < 8
 unfolding freeLink
 free-place ls i e = first-found (λ k. not (linkAt ls k .present)) 8 0 i e .high
 
-pub lists-long : (h : ℕ) (al fl : List ℕ) → listsFit h al fl ≡ true → (length al ≡ 2 * h) × (length fl ≡ 2 * h)
+pub lists-long : (z : Settings) (w : Lists) → listsFit z w ≡ true → (length (w .addrs) ≡ 2 * z .rows) × (length (w .floors) ≡ 2 * z .rows)
 unfolding listsFit
-lists-long h al fl e = go (eqb (length al) (2 * h)) refl e
+lists-long z w e = go (eqb (length (w .addrs)) (2 * z .rows)) refl e
   where
-    go : (t : Bool) → eqb (length al) (2 * h) ≡ t → both t (eqb (length fl) (2 * h)) ≡ true → (length al ≡ 2 * h) × (length fl ≡ 2 * h)
+    go : (t : Bool) → eqb (length (w .addrs)) (2 * z .rows) ≡ t → both t (eqb (length (w .floors)) (2 * z .rows)) ≡ true
+        → (length (w .addrs) ≡ 2 * z .rows) × (length (w .floors) ≡ 2 * z .rows)
     go true q r = (eqb-true _ _ q, eqb-true _ _ r)
     go false q r = let z : _≡_ {A = ℕ} 0 1 = cc in absurd (omega arith)

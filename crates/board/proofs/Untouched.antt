@@ -3,16 +3,17 @@
 -- Assumes nothing.
 use mathlib.Core.Path.{_≡_, refl}
 use mathlib.Core.Bool.{not}
-use mathlib.Core.List.{List}
 use Prim.Native.Nat.{ℕ, _-_}
 use lib.Dec.{eqb, ltb}
+use Rattle.settings.specs.Settings.{Settings}
 use Rattle.octets.proofs.Choices.{choose}
 use Rattle.octets.specs.Addresses.{noAddress}
 use Rattle.octets.specs.Lists.{eqList}
+use Rattle.octets.specs.Keys.{Key}
 use Rattle.board.specs.declared.Board.{Board}
 use Rattle.board.specs.declared.Place.{Place}
 use Rattle.board.specs.declared.Place.the-variants.{At, Absent}
-use Rattle.board.specs.Rows.{listsFit}
+use Rattle.board.specs.Rows.{Lists, listsFit}
 use Rattle.board.specs.State.{slotAt, linkAt, carries, noLink, withSlot, withLink}
 use Rattle.board.specs.Requests.{Left, Changed, holds, installed, install, slotOf, switchTo, switch}
 use Rattle.board.specs.Requests.{linkOf, freeLink, added, addNew, addTo, addLink, removeAt, removeLink}
@@ -45,10 +46,10 @@ same-links b = record { own = refl; outgoing = refl; aps = refl; slots = refl; a
 link-kept : (b : Board) (i : ℕ) (l : _) → KeptByLinks b (withLink b i l)
 link-kept b i l = record { own = refl; outgoing = refl; aps = refl; slots = refl; active = refl }
 
-pub install-keeps : (h : ℕ) (b : Board) (al fl : List ℕ) (i n : ℕ) (k : List ℕ) → KeptByNetwork b (install h b al fl i n k .board)
+pub install-keeps : (z : Settings) (b : Board) (w : Lists) (i n : ℕ) (k : Key) → KeptByNetwork b (install z b w i n k .board)
 unfolding install
-install-keeps h b al fl i n k =
-    choose K (not (listsFit h al fl)) _ _ (λ _. same-network b) λ _.
+install-keeps z b w i n k =
+    choose K (not (listsFit z w)) _ _ (λ _. same-network b) λ _.
     choose K (ltb 1 i) _ _ (λ _. same-network b) λ _.
     choose K (carries (slotAt (b .slots) (1 - i)) n) _ _ (λ _. same-network b) λ _.
     choose K (holds (slotAt (b .slots) i) n k) _ _ (λ _. same-network b) λ _.
@@ -74,7 +75,7 @@ switch-slots b n = go (slotOf (b .slots) n)
     go (At i) = refl
     go Absent = refl
 
-pub add-keeps : (b : Board) (a : ℕ) (k : List ℕ) → KeptByLinks b (addLink b a k .board)
+pub add-keeps : (b : Board) (a : ℕ) (k : Key) → KeptByLinks b (addLink b a k .board)
 unfolding addLink
 add-keeps b a k = choose K (noAddress a) _ _ (λ _. same-links b) λ _. place (linkOf (b .links) a)
   where
@@ -86,7 +87,7 @@ add-keeps b a k = choose K (noAddress a) _ _ (λ _. same-links b) λ _. place (l
     new Absent = same-links b
 
     place : (p : Place) → K (addTo b a k p)
-    place (At i) = choose K (eqList (linkAt (b .links) i .key) k) _ _ (λ _. same-links b) λ _. link-kept b i (added a k)
+    place (At i) = choose K (eqList (linkAt (b .links) i .key) (k .octets)) _ _ (λ _. same-links b) λ _. link-kept b i (added a k)
     place Absent = new (freeLink (b .links))
 
 pub remove-keeps : (b : Board) (a : ℕ) → KeptByLinks b (removeLink b a .board)

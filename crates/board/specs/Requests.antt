@@ -5,16 +5,18 @@ use mathlib.Core.List.{List}
 use Prim.Native.Nat.{ℕ, _-_, _*_}
 use lib.Dec.{eqb, ltb}
 use lib.ListN.{set}
+use Rattle.settings.specs.Settings.{Settings}
 use Rattle.octets.specs.Addresses.{noAddress}
 use Rattle.octets.specs.Choice.{if_then_else_, both}
 use Rattle.octets.specs.Lists.{eqList}
+use Rattle.octets.specs.Keys.{Key}
 use Rattle.board.specs.declared.Slot.{Slot}
 use Rattle.board.specs.declared.Link.{Link}
 use Rattle.board.specs.declared.Board.{Board}
 use Rattle.board.specs.declared.Place.{Place}
 use Rattle.board.specs.declared.Place.the-variants.{At, Absent}
 use Rattle.board.specs.Places.{firstAt}
-use Rattle.board.specs.Rows.{listsFit, findRow, freed}
+use Rattle.board.specs.Rows.{Lists, lists, listsFit, findRow, freed}
 use Rattle.board.specs.State.{slotAt, linkAt, carries, pairs, noLink, fresh, withSlot, withActive, withLink}
 use Rattle.answers.specs.Numbers.{Told, done, refused}
 
@@ -22,11 +24,10 @@ use Rattle.answers.specs.Numbers.{Told, done, refused}
 pub record Left : Type 0 where
   pub answer : Told
   pub board : Board
-  pub addrs : List ℕ
-  pub floors : List ℕ
+  pub lists : Lists
 
-abbrev pub left : Told → Board → List ℕ → List ℕ → Left
-left t b al fl = record { answer = t; board = b; addrs = al; floors = fl }
+abbrev pub left : Told → Board → Lists → Left
+left t b w = record { answer = t; board = b; lists = w }
 
 -- the same of a request that is lent no lists
 pub record Changed : Type 0 where
@@ -39,11 +40,10 @@ changed t b = record { answer = t; board = b }
 -- the same of a request that has no board
 pub record Freed : Type 0 where
   pub answer : Told
-  pub addrs : List ℕ
-  pub floors : List ℕ
+  pub lists : Lists
 
-abbrev pub freeing : Told → List ℕ → List ℕ → Freed
-freeing t al fl = record { answer = t; addrs = al; floors = fl }
+abbrev pub freeing : Told → Lists → Freed
+freeing t w = record { answer = t; lists = w }
 
 -- "Own address (zero or all ones: no state is made, 14)"; a board without an address stands for none
 unfoldable pub make : ℕ → Changed
@@ -52,21 +52,25 @@ make a = if noAddress a then changed (refused 14) (fresh 0) else changed done (f
 -- ---- network keys
 
 -- the octets and number that the slot, present, already has
-unfoldable pub holds : Slot → ℕ → List ℕ → Bool
-holds s n k = both (carries s n) (eqList (s .key) k)
+unfoldable pub holds : Slot → ℕ → Key → Bool
+holds s n k = both (carries s n) (eqList (s .key) (k .octets))
 
-abbrev pub installed : ℕ → List ℕ → Slot
-installed n k = record { present = true; seq = n; key = k }
+abbrev pub installed : ℕ → Key → Slot
+installed n k = record { present = true; seq = n; key = k .octets }
+
+-- "its 32 rows are freed"
+abbrev pub rowsFreed : Settings → Lists → ℕ → Lists
+rowsFreed z w i = lists (freed (w .addrs) (i * z .rows) (z .rows)) (freed (w .floors) (i * z .rows) (z .rows))
 
 -- "14 if the slot is above 1 or the other present slot has that sequence number. The octets and number that the slot,
--- present, already has: nothing changes. Otherwise the slot is replaced, its rows are freed, and the active mark stays."
-unfoldable pub install : ℕ → Board → List ℕ → List ℕ → ℕ → ℕ → List ℕ → Left
-install h b al fl i n k =
-    if not (listsFit h al fl) then left (refused 1) b al fl
-    else (if ltb 1 i then left (refused 14) b al fl
-    else (if carries (slotAt (b .slots) (1 - i)) n then left (refused 14) b al fl
-    else (if holds (slotAt (b .slots) i) n k then left done b al fl
-    else left done (withSlot b i (installed n k)) (freed al (i * h) h) (freed fl (i * h) h))))
+-- present, already has: nothing changes. Otherwise the slot is replaced, its 32 rows are freed, and the active mark stays."
+unfoldable pub install : Settings → Board → Lists → ℕ → ℕ → Key → Left
+install z b w i n k =
+    if not (listsFit z w) then left (refused 1) b w
+    else (if ltb 1 i then left (refused 14) b w
+    else (if carries (slotAt (b .slots) (1 - i)) n then left (refused 14) b w
+    else (if holds (slotAt (b .slots) i) n k then left done b w
+    else left done (withSlot b i (installed n k)) (rowsFreed z w i))))
 
 -- the lowest present slot with that sequence number
 unfoldable pub slotOf : List Slot → ℕ → Place
@@ -90,21 +94,21 @@ unfoldable pub freeLink : List Link → Place
 freeLink ls = firstAt (λ i. not (linkAt ls i .present)) 0 8
 
 -- a new key, floor 0
-abbrev pub added : ℕ → List ℕ → Link
-added a k = record { present = true; partner = a; key = k; floor = 0 }
+abbrev pub added : ℕ → Key → Link
+added a k = record { present = true; partner = a; key = k .octets; floor = 0 }
 
 -- "New partner: lowest free entry, floor 0; none free: 10."
-abbrev pub addNew : Board → ℕ → List ℕ → Place → Changed
+abbrev pub addNew : Board → ℕ → Key → Place → Changed
 addNew b a k (At i) = changed done (withLink b i (added a k))
 addNew b a k Absent = changed (refused 10) b
 
 -- "the same partner and octets: nothing changes. Same partner, other octets: replaced, floor 0."
-abbrev pub addTo : Board → ℕ → List ℕ → Place → Changed
-addTo b a k (At i) = if eqList (linkAt (b .links) i .key) k then changed done b else changed done (withLink b i (added a k))
+abbrev pub addTo : Board → ℕ → Key → Place → Changed
+addTo b a k (At i) = if eqList (linkAt (b .links) i .key) (k .octets) then changed done b else changed done (withLink b i (added a k))
 addTo b a k Absent = addNew b a k (freeLink (b .links))
 
 -- "Partner zero or all ones: 14, judged first."
-unfoldable pub addLink : Board → ℕ → List ℕ → Changed
+unfoldable pub addLink : Board → ℕ → Key → Changed
 addLink b a k = if noAddress a then changed (refused 14) b else addTo b a k (linkOf (b .links) a)
 
 -- "Remove link key (zeroes its entry): 13 if absent (address 0 always is)."
@@ -119,13 +123,13 @@ removeLink b a = if eqb a 0 then changed (refused 13) b else removeAt b (linkOf 
 
 -- "forget sender of a slot: 13 if absent (address 0 always is). A slot above 1: 14, first. Forgetting frees the sender's row,
 -- address and floor zero." The lists are judged before all else.
-abbrev pub forgetAt : List ℕ → List ℕ → Place → Freed
-forgetAt al fl (At r) = freeing done (set al r 0) (set fl r 0)
-forgetAt al fl Absent = freeing (refused 13) al fl
+abbrev pub forgetAt : Lists → Place → Freed
+forgetAt w (At r) = freeing done (lists (set (w .addrs) r 0) (set (w .floors) r 0))
+forgetAt w Absent = freeing (refused 13) w
 
-unfoldable pub forget : ℕ → List ℕ → List ℕ → ℕ → ℕ → Freed
-forget h al fl i a =
-    if not (listsFit h al fl) then freeing (refused 1) al fl
-    else (if ltb 1 i then freeing (refused 14) al fl
-    else (if eqb a 0 then freeing (refused 13) al fl
-    else forgetAt al fl (findRow al (i * h) h a)))
+unfoldable pub forget : Settings → Lists → ℕ → ℕ → Freed
+forget z w i a =
+    if not (listsFit z w) then freeing (refused 1) w
+    else (if ltb 1 i then freeing (refused 14) w
+    else (if eqb a 0 then freeing (refused 13) w
+    else forgetAt w (findRow (w .addrs) (i * z .rows) (z .rows) a)))

@@ -1,6 +1,6 @@
 -- Document 01, "The state and the lists": "The heard senders stand in two lent lists, 64-bit addresses and 32-bit floors, 64
--- rows each: rows 0 to 31 for slot 0, rows 32 to 63 for slot 1. Address 0 is a free row". The rows of a slot are a
--- parameter of every definition, so that another length changes one number.
+-- rows each: rows 0 to 31 for slot 0, rows 32 to 63 for slot 1. Address 0 is a free row". How many rows a slot has is a
+-- setting.
 -- Assumes nothing.
 use mathlib.Core.Bool.{Bool}
 use mathlib.Core.List.{List}
@@ -8,17 +8,22 @@ use Prim.Native.Nat.{ℕ, _-_, _*_, min}
 use lib.Dec.{eqb}
 use lib.ListN.{length, getD, replicate}
 use lib.Seq.{paste}
+use Rattle.settings.specs.Settings.{Settings}
 use Rattle.octets.specs.Choice.{both}
 use Rattle.board.specs.declared.Place.{Place}
 use Rattle.board.specs.Places.{firstAt}
 
--- the rows of a slot
-abbrev pub half : ℕ
-half = 32
+-- "The heard senders stand in two lent lists"
+pub record Lists : Type 0 where
+  pub addrs : List ℕ
+  pub floors : List ℕ
 
--- both lists have the rows of two slots, h each
-unfoldable pub listsFit : ℕ → List ℕ → List ℕ → Bool
-listsFit h al fl = both (eqb (length al) (2 * h)) (eqb (length fl) (2 * h))
+abbrev pub lists : List ℕ → List ℕ → Lists
+lists al fl = record { addrs = al; floors = fl }
+
+-- both lists have the rows of two slots
+unfoldable pub listsFit : Settings → Lists → Bool
+listsFit z w = both (eqb (length (w .addrs)) (2 * z .rows)) (eqb (length (w .floors)) (2 * z .rows))
 
 -- the lowest of the n rows from i on, so far as the list has them, that has address a
 unfoldable pub findRow : List ℕ → ℕ → ℕ → ℕ → Place

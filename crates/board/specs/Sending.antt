@@ -1,16 +1,16 @@
--- Document 01: sealing "answers the length, and raises the outgoing counter by 1"; the counter is "never lowered (ours)",
--- and 4,294,967,295 is the top that sealing refuses (7).
+-- Document 01: sealing "writes the secured frame likewise, answers the length, and raises the outgoing counter by 1"; the
+-- counter is "never lowered (ours)", and sealing is refused (7) with the board's own at 4,294,967,295.
 -- Assumes nothing.
 use mathlib.Core.List.{List}
 use Prim.Native.Nat.{ℕ, _+_}
 use lib.Dec.{eqb}
+use lib.ListN.{length}
+use Rattle.settings.specs.Settings.{top}
 use Rattle.octets.specs.Choice.{if_then_else_}
+use Rattle.octets.specs.Lists.{onto}
 use Rattle.board.specs.declared.Board.{Board}
-use Rattle.answers.specs.Numbers.{FrameTold, opened, sealed, turnedDown}
-
--- 4,294,967,295, the counter that is neither sent nor accepted
-abbrev pub top : ℕ
-top = 4294967295
+use Rattle.board.specs.declared.Sending.{Sending}
+use Rattle.answers.specs.Numbers.{Told, done, refused, FrameTold, opened, sealed, written, turnedDown}
 
 abbrev pub withOutgoing : Board → ℕ → Board
 withOutgoing b n =
@@ -32,11 +32,12 @@ unfoldable pub spent : Board → Board
 spent b = withOutgoing b (raised (b .outgoing))
 
 -- the outgoing counter behind an answer: sealing a frame "raises the outgoing counter by 1", a refusal leaves it ("state, lists
--- and output stay"), and opening has no part in it
+-- and output stay"), and neither opening nor writing a command has part in it
 abbrev pub counterAfter : FrameTold → ℕ → ℕ
 counterAfter (sealed n) c = raised c
 counterAfter (turnedDown n) c = c
 counterAfter (opened n a g) c = c
+counterAfter (written n) c = c
 
 -- what a request over a frame answers, and the board and the output that it leaves
 pub record Framed : Type 0 where
@@ -46,3 +47,22 @@ pub record Framed : Type 0 where
 
 abbrev pub framed : FrameTold → Board → List ℕ → Framed
 framed t b o = record { answer = t; board = b; out = o }
+
+-- ---- what is left of sealing once the key is found, at either layer
+
+-- what sealing needs of the board
+abbrev pub sendingOf : Board → Sending
+sendingOf b = record { own = b .own; counter = b .outgoing }
+
+-- 7: "counter 4,294,967,295, heard or own"
+unfoldable pub maySend : Sending → Told
+maySend s = if eqb (s .counter) top then refused 7 else done
+
+-- "writes the secured frame" x "likewise", which is "at the start of the output", "answers the length, and raises the outgoing
+-- counter by 1"; or "state, lists and output stay"
+abbrev pub sendAs : Board → List ℕ → List ℕ → Told → Framed
+sendAs b x o done = framed (sealed (length x)) (spent b) (onto x o)
+sendAs b x o (refused n) = framed (turnedDown n) b o
+
+unfoldable pub send : Board → List ℕ → List ℕ → Framed
+send b x o = sendAs b x o (maySend (sendingOf b))

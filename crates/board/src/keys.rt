@@ -10,88 +10,91 @@ use crate::rows::lists_fit;
 use crate::state::with_active;
 use crate::state::with_slot;
 use answers::Refusal;
+use settings::ROWS;
 ghost use mathlib.Core.Path.{_≡_};
 ghost use Prim.Native.Nat.{_-_, _<_};
 ghost use Rattle.answers.specs.Numbers.{told};
-ghost use Rattle.board.specs.Rows.{half};
+ghost use Rattle.settings.specs.Settings.{ours};
+ghost use Rattle.octets.specs.Keys.{theKey};
+ghost use Rattle.board.specs.Rows.{lists};
 ghost use Rattle.board.specs.State.{slotAt, carries};
 ghost use Rattle.board.specs.Requests.{left, changed, holds, slotOf};
 ghost use Rattle.board.specs.Requests.{install as Requests·install, switch as Requests·switch};
 
-fn carries_number(s: Slot, seq: u8) -> bool
-    ensures { λ r. ⌜ r ≡ carries s seq ⌝ }
+fn carries_number(s: Slot, sequence: u8) -> bool
+    ensures { λ r. ⌜ r ≡ carries s sequence ⌝ }
 {
-    s.present && s.seq == seq
+    s.present && s.seq == sequence
 }
 
-fn holds_key(s: Slot, seq: u8, key: [u8; 16]) -> bool
-    ensures { λ r. ⌜ r ≡ holds s seq key ⌝ }
+fn holds_key(s: Slot, sequence: u8, key: [u8; 16]) -> bool
+    ensures { λ r. ⌜ r ≡ holds s sequence (theKey key) ⌝ }
 {
-    if !carries_number(s, seq) {
+    if !carries_number(s, sequence) {
         return false;
     }
     let own = s.key;
     octets::same(&own, &key)
 }
 
-// Installs a network key. 1 where the lists are not of 64 rows; 14 for a slot above 1, or where the
-// other slot has that sequence number. The key that is there already changes nothing; any other
+// Installs a network key. 1 where the lists don't fit; 14 for a slot above 1, or where the other
+// slot has that sequence number. The key that is there already changes nothing; any other
 // replaces the slot and frees its rows.
 pub fn install(
-    b: Board,
+    board: Board,
     addrs: &mut [u64],
     floors: &mut [u32],
     slot: usize,
-    seq: u8,
+    sequence: u8,
     key: [u8; 16],
 ) -> After
-    ensures { λ r. ⌜ left (told (r .answer)) (r .board) (now (addrs .exit)) (now (floors .exit)) ≡ Requests·install half b (now (addrs .entry)) (now (floors .entry)) slot seq key ⌝ }
+    ensures { λ r. ⌜ left (told (r .answer)) (r .board) (lists (now (addrs .exit)) (now (floors .exit))) ≡ Requests·install ours board (lists (now (addrs .entry)) (now (floors .entry))) slot sequence (theKey key) ⌝ }
 {
     if !lists_fit(addrs, floors) {
-        return refuse(Refusal::Room, b);
+        return refuse(Refusal::Room, board);
     }
     if 1 < slot {
-        return refuse(Refusal::Argument, b);
+        return refuse(Refusal::Argument, board);
     }
-    let other = b.slots[1 - slot];
-    if carries_number(other, seq) {
-        return refuse(Refusal::Argument, b);
+    let other = board.slots[1 - slot];
+    if carries_number(other, sequence) {
+        return refuse(Refusal::Argument, board);
     }
-    let now = b.slots[slot];
-    if holds_key(now, seq, key) {
-        return did(b);
+    let now = board.slots[slot];
+    if holds_key(now, sequence, key) {
+        return did(board);
     }
-    free_rows(addrs, floors, slot * 32, 32);
+    free_rows(addrs, floors, slot * ROWS, ROWS);
     let s = Slot {
         present: true,
-        seq,
+        seq: sequence,
         key,
     };
-    did(with_slot(b, slot, s))
+    did(with_slot(board, slot, s))
 }
 
 // The lowest present slot with that sequence number.
-pub fn slot_of(slots: [Slot; 2], seq: u8) -> Place
-    ensures { λ r. ⌜ r ≡ slotOf slots seq ⌝ }
+pub fn slot_of(slots: [Slot; 2], sequence: u8) -> Place
+    ensures { λ r. ⌜ r ≡ slotOf slots sequence ⌝ }
 {
     let first = slots[0];
-    if carries_number(first, seq) {
+    if carries_number(first, sequence) {
         return Place::At(0);
     }
     let second = slots[1];
-    if carries_number(second, seq) {
+    if carries_number(second, sequence) {
         return Place::At(1);
     }
     Place::Absent
 }
 
 // The present slot with that sequence number becomes active, else 13.
-pub fn switch(b: Board, seq: u8) -> After
-    ensures { λ r. ⌜ changed (told (r .answer)) (r .board) ≡ Requests·switch b seq ⌝ }
+pub fn switch(board: Board, sequence: u8) -> After
+    ensures { λ r. ⌜ changed (told (r .answer)) (r .board) ≡ Requests·switch board sequence ⌝ }
 {
-    let slots = b.slots;
-    match slot_of(slots, seq) {
-        Place::At(i) => did(with_active(b, i)),
-        Place::Absent => refuse(Refusal::Absent, b),
+    let slots = board.slots;
+    match slot_of(slots, sequence) {
+        Place::At(i) => did(with_active(board, i)),
+        Place::Absent => refuse(Refusal::Absent, board),
     }
 }

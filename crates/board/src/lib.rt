@@ -1,10 +1,10 @@
 // The board: its state by value, the two lent lists of heard senders, and the requests that change
 // keys.
 mod keys;
+mod outgoing;
 mod partners;
 mod places;
 mod rows;
-mod sending;
 mod state;
 
 use answers::Outcome;
@@ -12,13 +12,15 @@ use answers::Sealed;
 pub use keys::install;
 pub use keys::slot_of;
 pub use keys::switch;
+pub use outgoing::counter_after;
+pub use outgoing::may_send;
+pub use outgoing::sending_of;
 pub use partners::add_link;
 pub use partners::link_of;
 pub use partners::remove_link;
 pub use rows::find_row;
 pub use rows::forget;
 pub use rows::lists_fit;
-pub use sending::counter_after;
 pub use state::make;
 
 // The lowest place that was looked for.
@@ -60,6 +62,12 @@ pub struct Board {
 pub struct After {
     pub answer: Outcome,
     pub board: Board,
+}
+
+// What sealing needs of the board: its address and the counter that goes out.
+pub struct Sending {
+    pub own: u64,
+    pub counter: u32,
 }
 
 // What sealing answers, and the board that it leaves.

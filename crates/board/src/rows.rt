@@ -2,27 +2,30 @@
 use crate::Place;
 use answers::Outcome;
 use answers::Refusal;
+use settings::LIST;
+use settings::ROWS;
 ghost use mathlib.Core.Path.{_≡_};
 ghost use Prim.Native.Nat.{_+_, _-_, _≤_, min};
 ghost use lib.ListN.{length, set};
 ghost use Rattle.answers.specs.Numbers.{told};
-ghost use Rattle.board.specs.Rows.{half, listsFit, findRow, freed};
+ghost use Rattle.settings.specs.Settings.{ours};
+ghost use Rattle.board.specs.Rows.{lists, listsFit, findRow, freed};
 ghost use Rattle.board.specs.Requests.{freeing};
 ghost use Rattle.board.specs.Requests.{forget as Requests·forget};
 
-// Whether both lists have 64 rows.
+// Whether both lists have the rows of two slots.
 pub fn lists_fit(addrs: &[u64], floors: &[u32]) -> bool
-    ensures { λ r. ⌜ r ≡ listsFit half (now (addrs .entry)) (now (floors .entry)) ⌝ }
+    ensures { λ r. ⌜ r ≡ listsFit ours (lists (now (addrs .entry)) (now (floors .entry))) ⌝ }
 {
-    if addrs.len() != 64 {
+    if addrs.len() != LIST {
         return false;
     }
-    floors.len() == 64
+    floors.len() == LIST
 }
 
-// The lowest of the n rows from place from on, so far as the list has them, with address a.
-pub fn find_row(addrs: &[u64], from: usize, n: usize, a: u64) -> Place
-    ensures { λ r. ⌜ r ≡ findRow (now (addrs .entry)) from n a ⌝ }
+// The lowest of the n rows from place from on, so far as the list has them, with that address.
+pub fn find_row(addrs: &[u64], from: usize, n: usize, address: u64) -> Place
+    ensures { λ r. ⌜ r ≡ findRow (now (addrs .entry)) from n address ⌝ }
 {
     if addrs.len() <= from {
         return Place::Absent;
@@ -30,7 +33,7 @@ pub fn find_row(addrs: &[u64], from: usize, n: usize, a: u64) -> Place
     let end = from + least(n, addrs.len() - from);
     let mut i = from;
     while i < end {
-        if addrs[i] == a {
+        if addrs[i] == address {
             return Place::At(i);
         }
         i = i + 1;
@@ -44,28 +47,28 @@ fn least(n: usize, m: usize) -> usize
     if n < m { n } else { m }
 }
 
-fn put_address(l: &mut [u64], r: usize, a: u64)
-    ensures { λ _. ⌜ now (l .exit) ≡ set (now (l .entry)) r a ⌝ }
+fn put_address(l: &mut [u64], r: usize, address: u64)
+    ensures { λ _. ⌜ now (l .exit) ≡ set (now (l .entry)) r address ⌝ }
 {
     if r < l.len() {
-        l[r] = a;
+        l[r] = address;
     }
 }
 
-fn put_floor(l: &mut [u32], r: usize, n: u32)
-    ensures { λ _. ⌜ now (l .exit) ≡ set (now (l .entry)) r n ⌝ }
+fn put_floor(l: &mut [u32], r: usize, floor: u32)
+    ensures { λ _. ⌜ now (l .exit) ≡ set (now (l .entry)) r floor ⌝ }
 {
     if r < l.len() {
-        l[r] = n;
+        l[r] = floor;
     }
 }
 
 // Row r gets an address and a floor; a list that has no such row stays.
-pub(crate) fn put_row(addrs: &mut [u64], floors: &mut [u32], r: usize, a: u64, floor: u32)
-    ensures { λ _. ⌜ now (addrs .exit) ≡ set (now (addrs .entry)) r a ⌝ }
+pub(crate) fn put_row(addrs: &mut [u64], floors: &mut [u32], r: usize, address: u64, floor: u32)
+    ensures { λ _. ⌜ now (addrs .exit) ≡ set (now (addrs .entry)) r address ⌝ }
     ensures { λ _. ⌜ now (floors .exit) ≡ set (now (floors .entry)) r floor ⌝ }
 {
-    put_address(addrs, r, a);
+    put_address(addrs, r, address);
     put_floor(floors, r, floor);
 }
 
@@ -97,10 +100,10 @@ pub(crate) fn free_rows(addrs: &mut [u64], floors: &mut [u32], from: usize, n: u
     free_floors(floors, from, n);
 }
 
-// Forgets a sender of a slot: its row is freed. 1 where the lists are not of 64 rows, 14 for a slot
-// above 1, 13 where the sender is not there.
-pub fn forget(addrs: &mut [u64], floors: &mut [u32], slot: usize, a: u64) -> Outcome
-    ensures { λ r. ⌜ freeing (told r) (now (addrs .exit)) (now (floors .exit)) ≡ Requests·forget half (now (addrs .entry)) (now (floors .entry)) slot a ⌝ }
+// Forgets a sender of a slot: its row is freed. 1 where the lists don't fit, 14 for a slot above 1,
+// 13 where the sender is not there.
+pub fn forget(addrs: &mut [u64], floors: &mut [u32], slot: usize, sender: u64) -> Outcome
+    ensures { λ r. ⌜ freeing (told r) (lists (now (addrs .exit)) (now (floors .exit))) ≡ Requests·forget ours (lists (now (addrs .entry)) (now (floors .entry))) slot sender ⌝ }
 {
     let fit = lists_fit(addrs, floors);
     if !fit {
@@ -109,10 +112,10 @@ pub fn forget(addrs: &mut [u64], floors: &mut [u32], slot: usize, a: u64) -> Out
     if 1 < slot {
         return Outcome::Refused(Refusal::Argument);
     }
-    if a == 0 {
+    if sender == 0 {
         return Outcome::Refused(Refusal::Absent);
     }
-    match find_row(addrs, slot * 32, 32, a) {
+    match find_row(addrs, slot * ROWS, ROWS, sender) {
         Place::At(r) => {
             put_row(addrs, floors, r, 0, 0);
             Outcome::Done

@@ -56,44 +56,44 @@ pub fn make(own: u64) -> After
     did(fresh_board(own))
 }
 
-pub(crate) fn with_slot(b: Board, i: usize, s: Slot) -> Board
+pub(crate) fn with_slot(board: Board, i: usize, s: Slot) -> Board
     requires { ⌜ i < 2 ⌝ }
-    ensures { λ r. ⌜ r ≡ withSlot b i s ⌝ }
+    ensures { λ r. ⌜ r ≡ withSlot board i s ⌝ }
 {
-    let mut slots = b.slots;
+    let mut slots = board.slots;
     slots[i] = s;
-    let active = b.active;
-    let links = b.links;
+    let active = board.active;
+    let links = board.links;
     Board {
-        own: b.own,
-        outgoing: b.outgoing,
-        aps: b.aps,
+        own: board.own,
+        outgoing: board.outgoing,
+        aps: board.aps,
         slots,
         active,
         links,
     }
 }
 
-pub(crate) fn with_active(b: Board, i: usize) -> Board
-    ensures { λ r. ⌜ r ≡ withActive b i ⌝ }
+pub(crate) fn with_active(board: Board, i: usize) -> Board
+    ensures { λ r. ⌜ r ≡ withActive board i ⌝ }
 {
-    let slots = b.slots;
-    let links = b.links;
+    let slots = board.slots;
+    let links = board.links;
     Board {
-        own: b.own,
-        outgoing: b.outgoing,
-        aps: b.aps,
+        own: board.own,
+        outgoing: board.outgoing,
+        aps: board.aps,
         slots,
         active: Active::Slot(i),
         links,
     }
 }
 
-pub(crate) fn with_link(b: Board, i: usize, l: Link) -> Board
+pub(crate) fn with_link(board: Board, i: usize, l: Link) -> Board
     requires { ⌜ i < 8 ⌝ }
-    ensures { λ r. ⌜ r ≡ withLink b i l ⌝ }
+    ensures { λ r. ⌜ r ≡ withLink board i l ⌝ }
 {
-    let mut next = b;
+    let mut next = board;
     next.links[i] = l;
     next
 }

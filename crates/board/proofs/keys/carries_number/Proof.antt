@@ -1,3 +1,4 @@
+-- `&&` and `both` ask the same two things in the same order.
 use Rattle.board.specs.State.{carries}
 use Rattle.board.proofs.keys.carries_number.Statement.{statement}
 use Rattle.board.proofs.keys.carries_number.Tie as tie

@@ -1,3 +1,4 @@
+-- The number is asked first, then all octets, as in the definition.
 use mathlib.Core.Path.{sym, _∙_}
 use borrow.Author.Needs.{needs}
 use borrow.Author.Tests.{not-true, not-false}

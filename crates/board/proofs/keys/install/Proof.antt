@@ -1,7 +1,11 @@
+-- Each refusal is the definition's test of the same place; the rows, which the lists have since they fit, are freed before the
+-- slot is replaced.
 use mathlib.Core.Path.{refl, sym, ap, _∙_}
 use native.Mathlib.Omega.{arith}
 use borrow.Author.Needs.{needs}
 use borrow.Author.Tests.{lt-ltb, le-ltb, not-true, not-false}
+use Rattle.settings.specs.Settings.{ours}
+use Rattle.board.specs.Rows.{lists}
 use Rattle.board.specs.Requests.{changed, install}
 use Rattle.board.proofs.Leaves.{left-all}
 use Rattle.answers.specs.Numbers.{done}
@@ -115,7 +119,7 @@ free-rows-requires : tie.Need-free-rows-requires
 free-rows-requires c κs =
     let else1 : tie.Else1 = search in
     let start : tie.Start = search in
-    let h = lists-long 32 (start .args .addrs .now) (start .args .floors .now)
+    let h = lists-long ours (lists (start .args .addrs .now) (start .args .floors .now))
     (sym (else1 .before .lists-fit .ensures) ∙ not-false _ (else1 .if1 .left)) in
     let else2 : tie.Else2 = search in
     omega (arith, h .0, h .1, else2 .if2 .left)

@@ -1,3 +1,4 @@
+-- The two slots are asked in the order in which the definition's search goes through them.
 use mathlib.Core.Path.{sym, _∙_}
 use borrow.Author.Needs.{needs}
 use Rattle.board.specs.Places.{firstAt}

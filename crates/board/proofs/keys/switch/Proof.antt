@@ -1,3 +1,4 @@
+-- The place that `slot_of` answers decides, in code and definition alike.
 use mathlib.Core.Path.{sym, _∙_}
 use borrow.Author.Needs.{needs}
 use Rattle.board.specs.Requests.{switch}

@@ -1,3 +1,4 @@
+-- The test of the octets is the definition's; both arms are promises of what is called.
 use mathlib.Core.Path.{sym, _∙_}
 use borrow.Author.Needs.{needs}
 use Rattle.board.proofs.partners.add_again.Statement.{statement}

@@ -1,3 +1,4 @@
+-- The place that `free_link` answers is the definition's; that it is an entry is what a search tells of its answer.
 use mathlib.Core.Path.{sym, _∙_}
 use borrow.Author.Needs.{needs}
 use Rattle.board.proofs.Found.{free-place}

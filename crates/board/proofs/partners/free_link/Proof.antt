@@ -1,3 +1,4 @@
+-- What is left to look at finds the same entry as the whole: a free one ends the search, another moves it on.
 use mathlib.Core.Path.{_≡_, refl, sym, _∙_}
 use mathlib.Core.Bool.{not}
 use Prim.Native.Nat.{_-_, _≤_}

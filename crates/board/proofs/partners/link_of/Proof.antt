@@ -1,3 +1,4 @@
+-- What is left to look at finds the same entry as the whole: a pair ends the search, another moves it on.
 use mathlib.Core.Path.{_≡_, refl, sym, _∙_}
 use Prim.Native.Nat.{_-_, _≤_}
 use borrow.Author.Needs.{needs}

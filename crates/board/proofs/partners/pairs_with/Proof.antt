@@ -1,3 +1,4 @@
+-- `&&` and `both` ask the same two things in the same order.
 use Rattle.board.specs.State.{pairs}
 use Rattle.board.proofs.partners.pairs_with.Statement.{statement}
 use Rattle.board.proofs.partners.pairs_with.Tie as tie

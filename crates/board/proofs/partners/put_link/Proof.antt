@@ -1,3 +1,4 @@
+-- The entry made here is `added`; all else is the promise of `with_link`.
 use borrow.Author.Needs.{needs}
 use Rattle.board.proofs.partners.put_link.Statement.{statement}
 use Rattle.board.proofs.partners.put_link.Tie as tie

@@ -1,3 +1,4 @@
+-- Address 0 is judged first, then the place that `link_of` answers decides, in code and definition alike.
 use mathlib.Core.Path.{sym, _∙_}
 use borrow.Author.Needs.{needs}
 use borrow.Author.Tests.{eq-eqb, ne-eqb}

@@ -1,3 +1,4 @@
+-- What is left to look at finds the same row as the whole: a hit ends the search, a miss moves it on by one row.
 use mathlib.Core.Path.{_≡_, sym, ap, _∙_}
 use Prim.Native.Nat.{_+_, _-_, _≤_, min}
 use native.Mathlib.Omega.{arith}
@@ -20,12 +21,9 @@ abbrev μ-loop : tie.MeasureT-loop
 
 returns : tie.Need-returns Inv-loop μ-loop
 unfolding findRow firstAt
-returns c =
-    let e : min (c .before .before .args .n) (length (c .before .before .args .addrs .now) - c .before .before .args .from) ≡ 0
-    = omega arith in
-    sym
-    (ap (firstAt (λ r. eqb (getD (c .before .before .args .addrs .now) r 0) (c .before .before .args .a)) (c .before .before .args .from))
-    e)
+returns c = let x = c .before .before .args in
+    let e : min (x .n) (length (x .addrs .now) - x .from) ≡ 0 = omega arith in
+    sym (ap (firstAt (λ r. eqb (getD (x .addrs .now) r 0) (x .address)) (x .from)) e)
 
 sub-least : tie.Need-sub-least Inv-loop μ-loop
 sub-least c = search needs
@@ -41,7 +39,7 @@ unfolding findRow
 loop-holds c = let m = c .least .ensures in
     let x = c .before .before .before .args in
     let e : min (x .n) (length (x .addrs .now) - x .from) ≡ x .from + c .least .result - x .from = omega arith in
-    (omega arith, omega arith, ap (firstAt (λ r. eqb (getD (x .addrs .now) r 0) (x .a)) (x .from)) e)
+    (omega arith, omega arith, ap (firstAt (λ r. eqb (getD (x .addrs .now) r 0) (x .address)) (x .from)) e)
 
 mul-if2 : tie.Need-mul-if2 Inv-loop μ-loop
 mul-if2 c = search needs

@@ -1,3 +1,4 @@
+-- Each refusal is the definition's test of the same place; the row that was found is zeroed in both lists.
 use mathlib.Core.Path.{sym, _∙_}
 use borrow.Author.Needs.{needs}
 use borrow.Author.Tests.{eq-eqb, ne-eqb, lt-ltb, le-ltb, not-true, not-false}

@@ -1,3 +1,4 @@
+-- After j turns the first j of the n rows are zero; after n of them the list is the freed one.
 use mathlib.Core.Path.{_≡_, refl, ap, _∙_}
 use Prim.Native.Nat.{_+_, _-_, _≤_}
 use native.Mathlib.Omega.{arith}

@@ -1,3 +1,4 @@
+-- The two tests of the lengths are the definition's two.
 use Rattle.octets.proofs.Choices.{tests}
 use Rattle.board.specs.Rows.{listsFit}
 use Rattle.board.proofs.rows.lists_fit.Statement.{statement}

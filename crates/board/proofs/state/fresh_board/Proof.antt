@@ -1,3 +1,4 @@
+-- The array of eight such links is the definition's list.
 use borrow.Author.Needs.{needs}
 use Rattle.board.proofs.state.fresh_board.Statement.{statement}
 use Rattle.board.proofs.state.fresh_board.Tie as tie

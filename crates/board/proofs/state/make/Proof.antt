@@ -1,3 +1,4 @@
+-- The one test is the definition's, and each board is a promise of `fresh_board`.
 use mathlib.Core.Path.{sym, _∙_}
 use borrow.Author.Needs.{needs}
 use Rattle.board.specs.Requests.{make}

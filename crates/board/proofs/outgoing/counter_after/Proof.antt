@@ -1,7 +1,8 @@
+-- A sealed frame raises the counter unless it is at its top, as `raised` does; a refusal leaves it.
 use borrow.Author.Tests.{eq-eqb, ne-eqb}
 use borrow.Author.Needs.{needs}
-use Rattle.board.proofs.sending.counter_after.Statement.{statement}
-use Rattle.board.proofs.sending.counter_after.Tie as tie
+use Rattle.board.proofs.outgoing.counter_after.Statement.{statement}
+use Rattle.board.proofs.outgoing.counter_after.Tie as tie
 
 enum-told : tie.Need-enum-told
 enum-told c = search needs
