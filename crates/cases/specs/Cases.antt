@@ -6,30 +6,33 @@ use mathlib.Core.Bool.{true, false}
 use mathlib.Core.List.{List, [], _∷_}
 use Prim.Native.Nat.{ℕ, _+_, _≤_}
 use lib.ListN.{length}
+use Rattle.settings.specs.Settings.{ours, top}
 use Rattle.octets.specs.Addresses.{noAddress}
+use Rattle.octets.specs.Keys.{Key}
 use Rattle.octets.specs.Least.{numberAt}
 use Rattle.octets.specs.Lists.{at}
 use Rattle.answers.specs.Numbers.{FrameTold, turnedDown}
 use Rattle.cipher.specs.Ccm.{valid}
 use Rattle.cipher.specs.Cases.{M2, M3, M4, M5, M6, M7, M8}
+use Rattle.frames.specs.declared.Layer.the-variants.{Network}
 use Rattle.frames.specs.declared.Secured.{Secured}
-use Rattle.frames.specs.Security.{tagOctets, identifierOf, extendedOf, wireControl, nonceOf}
+use Rattle.frames.specs.Security.{identifierOf, extendedOf, wireControl, nonceOf}
 use Rattle.frames.specs.Network.{networkControl, networkForm, networkSecured, networkHeader, networkKeyed}
-use Rattle.frames.specs.Reading.{refused, secured, announced, readNetwork}
+use Rattle.frames.specs.Reading.{refused, secured, announced, reading}
 use Rattle.board.specs.declared.Board.{Board}
 use Rattle.board.specs.declared.Place.the-variants.{At}
-use Rattle.board.specs.Rows.{half, listsFit}
+use Rattle.board.specs.Rows.{Lists, listsFit}
 use Rattle.board.specs.State.{linkAt}
 use Rattle.board.specs.Requests.{linkOf}
 use Rattle.seals.specs.Sealing.{messageOf}
 use Rattle.network.specs.Sealing.{identifier}
-use Rattle.network.specs.Opening.{floorOf, rowFor, openedUnder}
+use Rattle.network.specs.Opening.{Lent, floorOf, rowFor, openedUnder}
 use Rattle.aps.specs.Opening as aps
 
 -- "M1 sender 0x0000000100000000, counter 5, network: nonce 00 00 00 00 01 00 00 00 05 00 00 00 2D."
 abbrev pub M1 : Type 0
 M1 =
-    nonceOf 0x0000000100000000 5 (wireControl identifier)
+    nonceOf ours 0x0000000100000000 5 (wireControl identifier)
     ≡ 0x00 ∷ 0x00 ∷ 0x00 ∷ 0x00 ∷ 0x01 ∷ 0x00 ∷ 0x00 ∷ 0x00 ∷ 0x05 ∷ 0x00 ∷ 0x00 ∷ 0x00 ∷ 0x2D ∷ []
 
 -- ---- M9 to M11 are of a sender's row as of a link entry
@@ -43,43 +46,43 @@ pub record Trial : Type 1 where
   pub leaves : ℕ
 
 -- every other check, at the network layer: the lists (1), the tag (9), and a row (10)
-pub record PassesRow (k f : List ℕ) (s : Secured) (al fl : List ℕ) (i : ℕ) : Type 0 where
-  pub lists : listsFit half al fl ≡ true
+pub record PassesRow (k : Key) (f : List ℕ) (s : Secured) (w : Lists) (i : ℕ) : Type 0 where
+  pub lists : listsFit ours w ≡ true
   pub message : List ℕ
-  pub tag : messageOf k f s ≡ valid message
+  pub tag : messageOf ours k f s ≡ valid message
   pub row : ℕ
-  pub found : rowFor half al i (s .sender) ≡ At row
+  pub found : rowFor ours w i (s .sender) ≡ At row
 
-abbrev pub atRow : List ℕ → List ℕ → Secured → List ℕ → List ℕ → List ℕ → ℕ → Trial
-atRow k f s al fl o i =
+abbrev pub atRow : Key → List ℕ → Secured → Lent → ℕ → Trial
+atRow k f s w i =
     record {
       counter = s .counter;
-      floor = floorOf half al fl i (s .sender);
-      answer = openedUnder half k i f s al fl o .answer;
-      Passes = PassesRow k f s al fl i;
-      leaves = floorOf half (openedUnder half k i f s al fl o .addrs) (openedUnder half k i f s al fl o .floors) i (s .sender);
+      floor = floorOf ours (w .lists) i (s .sender);
+      answer = openedUnder ours k i f s w .answer;
+      Passes = PassesRow k f s (w .lists) i;
+      leaves = floorOf ours (openedUnder ours k i f s w .leaves .lists) i (s .sender);
     }
 
 -- every other check, at the APS layer: the sender's entry (6), and the tag (9)
 pub record PassesEntry (b : Board) (f : List ℕ) (s : Secured) (i : ℕ) : Type 0 where
   pub entry : linkOf (b .links) (s .sender) ≡ At i
   pub message : List ℕ
-  pub tag : messageOf (aps.keyNamed (linkAt (b .links) i) s) f s ≡ valid message
+  pub tag : messageOf ours (aps.keyNamed (linkAt (b .links) i) s) f s ≡ valid message
 
 abbrev pub atEntry : Board → List ℕ → Secured → List ℕ → ℕ → Trial
 atEntry b f s o i =
     record {
       counter = s .counter;
       floor = linkAt (b .links) i .floor;
-      answer = aps.openedUnder b f s o i .answer;
+      answer = aps.openedUnder ours b f s o i .answer;
       Passes = PassesEntry b f s i;
-      leaves = linkAt (aps.openedUnder b f s o i .board .links) i .floor;
+      leaves = linkAt (aps.openedUnder ours b f s o i .board .links) i .floor;
     }
 
 -- at either layer
 abbrev pub AtBoth : (Trial → Type 0) → Type 0
 AtBoth P =
-    ((k f : List ℕ) (s : Secured) (al fl o : List ℕ) (i : ℕ) → P (atRow k f s al fl o i))
+    ((k : Key) (f : List ℕ) (s : Secured) (w : Lent) (i : ℕ) → P (atRow k f s w i))
     × ((b : Board) (f : List ℕ) (s : Secured) (o : List ℕ) (i : ℕ) → P (atEntry b f s o i))
 
 -- "M9 floor 7: counter 6 gives 8, counter 7 leaves floor 8."
@@ -98,7 +101,7 @@ M10 = AtBoth Last
 
 -- "M11 the next value gives 7 whatever the floor."
 abbrev pub Top : Trial → Type 0
-Top t = t .counter ≡ 4294967295 → t .answer ≡ turnedDown 7
+Top t = t .counter ≡ top → t .answer ≡ turnedDown 7
 
 abbrev pub M11 : Type 0
 M11 = AtBoth Top
@@ -115,16 +118,16 @@ pub record Eight (f : List ℕ) : Type 0 where
 -- a frame with an empty payload: it is read, behind both headers stands the tag alone, and whatever key opens it the message is
 -- empty
 pub record Empty (f : List ℕ) (s : Secured) : Type 0 where
-  pub reads : readNetwork f ≡ secured s
-  pub bare : length f ≡ s .header + s .aux + tagOctets
-  pub opens : (k m : List ℕ) → messageOf k f s ≡ valid m → m ≡ []
+  pub reads : reading ours Network f 0 ≡ secured s
+  pub bare : length f ≡ s .header + s .aux + ours .tag
+  pub opens : (k : Key) (m : List ℕ) → messageOf ours k f s ≡ valid m → m ≡ []
 
 -- "M12 a secured network frame of 25 octets with an 8-octet header is cut short (3); 26 carries an empty payload." The sender
 -- stands at place 13.
 abbrev pub M12 : Type 0
 M12 =
     (f : List ℕ) → Eight f
-    → (length f ≡ 25 → readNetwork f ≡ refused 3)
+    → (length f ≡ 25 → reading ours Network f 0 ≡ refused 3)
     × (length f ≡ 26 → noAddress (numberAt 8 f 13) ≡ false → Empty f (announced f 8 0))
 
 -- the list, and the one claim

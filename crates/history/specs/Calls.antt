@@ -4,8 +4,9 @@ use mathlib.Core.Bool.{Bool, true, false}
 use mathlib.Core.List.{List, [], _∷_}
 use Prim.Native.Nat.{ℕ}
 use lib.ListN.{take}
+use Rattle.octets.specs.Keys.{Key}
 use Rattle.octets.specs.Lists.{Octets}
-use Rattle.answers.specs.Numbers.{Told, done, refused, FrameTold, opened, sealed, turnedDown}
+use Rattle.answers.specs.Numbers.{Told, done, refused, FrameTold, opened, sealed, written, turnedDown}
 use Rattle.frames.specs.declared.Layer.{Layer}
 use Rattle.commands.specs.declared.Command.{Command}
 
@@ -13,11 +14,11 @@ use Rattle.commands.specs.declared.Command.{Command}
 -- looks neither at a sender that the caller gives nor at a partner and a key identifier.
 pub data Call : Type 0 where
   -- slot, sequence number, key
-  install : ℕ → ℕ → List ℕ → Call
+  install : ℕ → ℕ → Key → Call
   -- sequence number
   switch : ℕ → Call
   -- partner, key
-  addLink : ℕ → List ℕ → Call
+  addLink : ℕ → Key → Call
   -- partner
   removeLink : ℕ → Call
   -- slot, sender
@@ -43,6 +44,7 @@ refuses (answered done) = false
 refuses (answered (refused n)) = true
 refuses (gave (opened n a p) o) = false
 refuses (gave (sealed n) o) = false
+refuses (gave (written n) o) = false
 refuses (gave (turnedDown n) o) = true
 refuses (looked t) = false
 
@@ -51,6 +53,7 @@ abbrev pub handedOut : Reply → List ℕ
 handedOut (answered t) = []
 handedOut (gave (opened n a p) o) = take n o
 handedOut (gave (sealed n) o) = take n o
+handedOut (gave (written n) o) = take n o
 handedOut (gave (turnedDown n) o) = []
 handedOut (looked t) = []
 

@@ -8,6 +8,7 @@ use mathlib.Core.List.{List, [], _∷_}
 use Prim.Native.Nat.{ℕ, suc}
 use lib.Dec.{eqb}
 use Rattle.octets.specs.Choice.{if_then_else_, both}
+use Rattle.octets.specs.Keys.{Key}
 use Rattle.octets.specs.Lists.{eqList}
 use Rattle.frames.specs.declared.Layer.{Layer}
 use Rattle.frames.specs.declared.Layer.the-variants.{Network, Aps}
@@ -24,20 +25,20 @@ pub data Holder : Type 0 where
   link : ℕ → Holder
   nowhere : Holder
 
--- none, or a sequence number (0 of a link key) and octets
-pub data Key : Type 0 where
-  none : Key
-  key : ℕ → List ℕ → Key
+-- what stands there: no key, or one, with its sequence number (0 of a link key)
+pub data Installation : Type 0 where
+  none : Installation
+  key : ℕ → Key → Installation
 
 -- a secured frame that was opened: its sender and counter, its octets, and the plain frame that was handed out
-pub record Heard : Type 0 where
+pub record HeardFrame : Type 0 where
   pub sender : ℕ
   pub counter : ℕ
   pub octets : List ℕ
   pub plain : List ℕ
 
 -- a frame that was sealed: what was handed in, and what was handed out
-pub record Sent : Type 0 where
+pub record SentFrame : Type 0 where
   pub layer : Layer
   pub plain : List ℕ
   pub octets : List ℕ
@@ -45,10 +46,10 @@ pub record Sent : Type 0 where
 -- a holder has another key from now on, or none; a sender was forgotten there; a frame was opened under the key there; a frame
 -- was sealed. In every list of events the last one stands first.
 pub data Event : Type 0 where
-  keyed : Holder → Key → Event
+  keyed : Holder → Installation → Event
   forgot : Holder → ℕ → Event
-  heard : Holder → Heard → Event
-  sent : Sent → Event
+  heard : Holder → HeardFrame → Event
+  sent : SentFrame → Event
 
 abbrev pub same : Holder → Holder → Bool
 same (slot i) (slot j) = eqb i j
@@ -61,22 +62,22 @@ same nowhere y = false
 
 -- ---- which key a slot or partner has
 
-abbrev pub keyIn : List Event → Holder → Key
+abbrev pub keyIn : List Event → Holder → Installation
 keyIn [] x = none
 keyIn (keyed y k ∷ h) x = if same y x then k else keyIn h x
 keyIn (forgot y a ∷ h) x = keyIn h x
 keyIn (heard y r ∷ h) x = keyIn h x
 keyIn (sent s ∷ h) x = keyIn h x
 
-abbrev pub numbered : Key → ℕ → Bool
+abbrev pub numbered : Installation → ℕ → Bool
 numbered none n = false
 numbered (key q k) n = eqb q n
 
 -- the same number and octets
-abbrev pub sameKey : Key → Key → Bool
+abbrev pub sameKey : Installation → Installation → Bool
 sameKey none y = false
 sameKey (key q j) none = false
-sameKey (key q j) (key n k) = both (eqb q n) (eqList j k)
+sameKey (key q j) (key n k) = both (eqb q n) (eqList (j .octets) (k .octets))
 
 abbrev pub holderAt : Place → Holder
 holderAt (At i) = slot i
@@ -94,12 +95,12 @@ holderFor h Aps s = link (s .sender)
 -- ---- which frames were opened
 
 -- all but those from sender a
-abbrev pub without : ℕ → List Heard → List Heard
+abbrev pub without : ℕ → List HeardFrame → List HeardFrame
 without a [] = []
 without a (r ∷ l) = if eqb (r .sender) a then without a l else r ∷ without a l
 
 -- under the key that x has, each since that key was installed and since its sender was last forgotten there
-abbrev pub heardIn : List Event → Holder → List Heard
+abbrev pub heardIn : List Event → Holder → List HeardFrame
 heardIn [] x = []
 heardIn (keyed y k ∷ h) x = if same y x then [] else heardIn h x
 heardIn (forgot y a ∷ h) x = if same y x then without a (heardIn h x) else heardIn h x
@@ -107,17 +108,17 @@ heardIn (heard y r ∷ h) x = if same y x then r ∷ heardIn h x else heardIn h 
 heardIn (sent s ∷ h) x = heardIn h x
 
 -- whether one of them was sender a's, and how many senders they have
-abbrev pub isFrom : ℕ → List Heard → Bool
+abbrev pub isFrom : ℕ → List HeardFrame → Bool
 isFrom a [] = false
 isFrom a (r ∷ l) = if eqb (r .sender) a then true else isFrom a l
 
-abbrev pub senders : List Heard → ℕ
+abbrev pub senders : List HeardFrame → ℕ
 senders [] = 0
 senders (r ∷ l) = if isFrom (r .sender) l then senders l else suc (senders l)
 
 -- ---- which frames were sealed
 
-abbrev pub sentIn : List Event → List Sent
+abbrev pub sentIn : List Event → List SentFrame
 sentIn [] = []
 sentIn (keyed y k ∷ h) = sentIn h
 sentIn (forgot y a ∷ h) = sentIn h

@@ -8,29 +8,29 @@ use mathlib.Core.List.{List, [], _∷_}
 use Prim.Native.Nat.{ℕ}
 use lib.Dec.{eqb, ltb, leb}
 use lib.ListN.{length}
+use Rattle.settings.specs.Settings.{Settings, longest, longestAps, top}
 use Rattle.octets.specs.Choice.{if_then_else_, both}
+use Rattle.octets.specs.Keys.{Key}
 use Rattle.octets.specs.Lists.{Octets}
 use Rattle.history.specs.Calls.{Call, opening, Reply, answered, gave, looked, refuses, Replies, exchanges, SealsOctets}
-use Rattle.history.specs.Events.{Holder, slot, link, nowhere, Key, none, key, Heard, Sent, Event, keyIn, holderFor, heardIn, isFrom, senders, sentIn}
-use Rattle.history.specs.Story.{readAt, story}
+use Rattle.history.specs.Events.{Holder, slot, link, nowhere, Installation, none, key, HeardFrame, SentFrame, Event, keyIn, holderFor, heardIn, isFrom, senders, sentIn}
+use Rattle.history.specs.Story.{story}
 use Rattle.answers.specs.Numbers.{clear, under}
-use Rattle.answers.specs.Numbers.{opened, sealed, turnedDown}
+use Rattle.answers.specs.Numbers.{opened, sealed, written, turnedDown}
 use Rattle.frames.specs.declared.Layer.{Layer}
 use Rattle.frames.specs.declared.Layer.the-variants.{Network, Aps}
 use Rattle.frames.specs.declared.Secured.{Secured}
-use Rattle.frames.specs.Aps.{longestAps}
 use Rattle.frames.specs.Security.{identifierOf}
-use Rattle.frames.specs.Reading.{Reading, refused, plain, secured}
-use Rattle.board.specs.Sending.{top}
-use Rattle.seals.specs.Sealing.{longest, genuine}
+use Rattle.frames.specs.Reading.{Reading, refused, plain, secured, reading}
+use Rattle.seals.specs.Sealing.{genuine}
 use Rattle.aps.specs.Keys.{keyFor}
 
 -- ---- the first statement: the counters rise from each sealed frame to the next
 
 -- as receivers read them, who give no sender
-abbrev pub readings : List Sent → List Reading
-readings [] = []
-readings (s ∷ ss) = readAt (s .layer) (s .octets) 0 ∷ readings ss
+abbrev pub readings : Settings → List SentFrame → List Reading
+readings z [] = []
+readings z (s ∷ ss) = reading z (s .layer) (s .octets) 0 ∷ readings z ss
 
 -- the frame before, if there is one, is secured and carries a counter below n
 abbrev pub lower : List Reading → ℕ → Bool
@@ -45,10 +45,10 @@ rising (secured s ∷ rs) = both (lower rs (s .counter)) (rising rs)
 rising (plain k ∷ rs) = false
 rising (refused k ∷ rs) = false
 
-abbrev pub First : Replies → Type 0
-First board = (cs : List Call) → SealsOctets cs → rising (readings (sentIn (story (exchanges board cs)))) ≡ true
+abbrev pub First : Settings → Replies → Type 0
+First z board = (cs : List Call) → SealsOctets cs → rising (readings z (sentIn (story z (exchanges board cs)))) ≡ true
 
--- ---- the second statement, with room for m senders under a slot's key (32)
+-- ---- the second statement, with room for as many senders under a slot's key as the slot has rows (32)
 
 -- lengths: "network input over 116, APS over 108"
 abbrev pub longestAt : Layer → ℕ
@@ -56,39 +56,39 @@ longestAt Network = longest
 longestAt Aps = longestAps
 
 -- the key of that layer that a secured frame names, of the octets installed
-abbrev pub keyAt : Layer → Secured → List ℕ → List ℕ
+abbrev pub keyAt : Layer → Secured → Key → Key
 keyAt Network s k = k
 keyAt Aps s k = keyFor k (identifierOf (s .control))
 
 -- "above every counter opened before from that sender"
-abbrev pub aboveAll : ℕ → ℕ → List Heard → Bool
+abbrev pub aboveAll : ℕ → ℕ → List HeardFrame → Bool
 aboveAll a n [] = true
 aboveAll a n (r ∷ l) = both (if eqb (r .sender) a then ltb (r .counter) n else true) (aboveAll a n l)
 
 -- "There is room if the sender was opened under that installation and not forgotten since, or if fewer than 32 senders were."
 -- A link entry has one sender, its partner.
-abbrev pub room : ℕ → List Event → Holder → ℕ → Bool
-room m h (slot i) a = if isFrom a (heardIn h (slot i)) then true else ltb (senders (heardIn h (slot i))) m
-room m h (link p) a = true
-room m h nowhere a = false
+abbrev pub room : Settings → List Event → Holder → ℕ → Bool
+room z h (slot i) a = if isFrom a (heardIn h (slot i)) then true else ltb (senders (heardIn h (slot i))) (z .rows)
+room z h (link p) a = true
+room z h nowhere a = false
 
 -- key, counter, tag and room
-unfoldable pub passesUnder : ℕ → List Event → Layer → List ℕ → Secured → Holder → Key → Bool
-passesUnder m h l f s x none = false
-passesUnder m h l f s x (key n k) =
+unfoldable pub passesUnder : Settings → List Event → Layer → List ℕ → Secured → Holder → Installation → Bool
+passesUnder z h l f s x none = false
+passesUnder z h l f s x (key n k) =
     both (ltb (s .counter) top)
     (both (aboveAll (s .sender) (s .counter) (heardIn h x))
-    (both (genuine (keyAt l s k) f s) (room m h x (s .sender))))
+    (both (genuine z (keyAt l s k) f s) (room z h x (s .sender))))
 
 -- form: the frame is read as secured
-unfoldable pub passesRead : ℕ → List Event → Layer → List ℕ → Reading → Bool
-passesRead m h l f (secured s) = passesUnder m h l f s (holderFor h l s) (keyIn h (holderFor h l s))
-passesRead m h l f (plain n) = false
-passesRead m h l f (refused n) = false
+unfoldable pub passesRead : Settings → List Event → Layer → List ℕ → Reading → Bool
+passesRead z h l f (secured s) = passesUnder z h l f s (holderFor h l s) (keyIn h (holderFor h l s))
+passesRead z h l f (plain n) = false
+passesRead z h l f (refused n) = false
 
 -- lengths: "output under 116 octets"
-unfoldable pub passes : ℕ → List Event → Layer → List ℕ → ℕ → List ℕ → Bool
-passes m h l f g o = both (leb longest (length o)) (both (leb (length f) (longestAt l)) (passesRead m h l f (readAt l f g)))
+unfoldable pub passes : Settings → List Event → Layer → List ℕ → ℕ → List ℕ → Bool
+passes z h l f g o = both (leb longest (length o)) (both (leb (length f) (longestAt l)) (passesRead z h l f (reading z l f g)))
 
 -- a reply that tells a key's identifier
 abbrev pub tellsKey : Reply → Bool
@@ -96,6 +96,7 @@ tellsKey (answered t) = false
 tellsKey (gave (opened n a clear) o) = false
 tellsKey (gave (opened n a (under k)) o) = true
 tellsKey (gave (sealed n) o) = false
+tellsKey (gave (written n) o) = false
 tellsKey (gave (turnedDown n) o) = false
 tellsKey (looked t) = false
 
@@ -107,7 +108,7 @@ Rightly (refused n) r t = not (refuses r) ≡ t
 Rightly (plain n) r t = tellsKey r ≡ false
 
 -- of a frame of octets, after any calls
-abbrev pub Second : ℕ → Replies → Type 0
-Second m board =
+abbrev pub Second : Settings → Replies → Type 0
+Second z board =
     (cs : List Call) (l : Layer) (f : List ℕ) (g : ℕ) (o : List ℕ) → Octets f
-    → Rightly (readAt l f g) (board cs (opening l f g o)) (passes m (story (exchanges board cs)) l f g o)
+    → Rightly (reading z l f g) (board cs (opening l f g o)) (passes z (story z (exchanges board cs)) l f g o)

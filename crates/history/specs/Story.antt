@@ -3,20 +3,15 @@
 -- Assumes nothing.
 use mathlib.Core.List.{List, [], _∷_, _++_}
 use Prim.Native.Nat.{ℕ}
+use Rattle.settings.specs.Settings.{Settings}
 use Rattle.octets.specs.Choice.{if_then_else_}
 use Rattle.history.specs.Calls.{Call, install, switch, addLink, removeLink, forget, opening, sealing, looking, writing, Reply, refuses, handedOut, Exchange}
-use Rattle.history.specs.Events.{Holder, slot, link, Key, none, key, Event, keyed, forgot, heard, sent, keyIn, sameKey, holderFor}
+use Rattle.history.specs.Events.{Holder, slot, link, Installation, none, key, Event, keyed, forgot, heard, sent, keyIn, sameKey, holderFor}
 use Rattle.frames.specs.declared.Layer.{Layer}
-use Rattle.frames.specs.declared.Layer.the-variants.{Network, Aps}
-use Rattle.frames.specs.Reading.{Reading, refused, plain, secured, readNetwork, readAps}
-
--- how a frame of a layer is read, with the sender that the caller gives
-abbrev pub readAt : Layer → List ℕ → ℕ → Reading
-readAt Network f g = readNetwork f
-readAt Aps f g = readAps f g
+use Rattle.frames.specs.Reading.{Reading, refused, plain, secured, reading}
 
 -- "A call that changes nothing installs nothing"
-abbrev pub installing : List Event → Holder → Key → List Event
+abbrev pub installing : List Event → Holder → Installation → List Event
 installing h x k = if sameKey (keyIn h x) k then [] else keyed x k ∷ []
 
 -- a secured frame f was opened, and the plain frame p handed out
@@ -27,21 +22,21 @@ hearing h l f p (plain n) = []
 hearing h l f p (refused n) = []
 
 -- what a call tells that was not refused and handed out the frame p
-abbrev pub telling : List Event → Call → List ℕ → List Event
-telling h (install i n k) p = installing h (slot i) (key n k)
-telling h (switch n) p = []
-telling h (addLink a k) p = installing h (link a) (key 0 k)
-telling h (removeLink a) p = keyed (link a) none ∷ []
-telling h (forget i a) p = forgot (slot i) a ∷ []
-telling h (opening l f g o) p = hearing h l f p (readAt l f g)
-telling h (sealing l f a k o) p = sent (record { layer = l; plain = f; octets = p }) ∷ []
-telling h (looking l f g) p = []
-telling h (writing a c k r o) p = []
+abbrev pub telling : Settings → List Event → Call → List ℕ → List Event
+telling z h (install i n k) p = installing h (slot i) (key n k)
+telling z h (switch n) p = []
+telling z h (addLink a k) p = installing h (link a) (key 0 k)
+telling z h (removeLink a) p = keyed (link a) none ∷ []
+telling z h (forget i a) p = forgot (slot i) a ∷ []
+telling z h (opening l f g o) p = hearing h l f p (reading z l f g)
+telling z h (sealing l f a k o) p = sent (record { layer = l; plain = f; octets = p }) ∷ []
+telling z h (looking l f g) p = []
+telling z h (writing a c k r o) p = []
 
 -- what a call and its reply tell, after the events h
-abbrev pub eventsOf : List Event → Call → Reply → List Event
-eventsOf h c r = if refuses r then [] else telling h c (handedOut r)
+abbrev pub eventsOf : Settings → List Event → Call → Reply → List Event
+eventsOf z h c r = if refuses r then [] else telling z h c (handedOut r)
 
-abbrev pub story : List Exchange → List Event
-story [] = []
-story (x ∷ xs) = eventsOf (story xs) (x .call) (x .reply) ++ story xs
+abbrev pub story : Settings → List Exchange → List Event
+story z [] = []
+story z (x ∷ xs) = eventsOf z (story z xs) (x .call) (x .reply) ++ story z xs
