@@ -11,8 +11,10 @@ use lib.Dec.{eqb, ltb}
 use lib.ListN.{length, getD, set, length-set, replicate}
 use lib.Seq.{getD-set-same, getD-set-other}
 use borrow.Author.Tests.{eq-eqb, ne-eqb, lt-ltb, le-ltb, lt-leb, ltb-true, ltb-false, eqb-true}
-use Rattle.octets.proofs.Choices.{choose}
+use Rattle.settings.specs.Settings.{Settings, ours, longest, top}
+use Rattle.octets.proofs.Choices.{choose, both-parts}
 use Rattle.octets.specs.Addresses.{noAddress}
+use Rattle.octets.specs.Keys.{Key}
 use Rattle.octets.specs.Least.{numberAt}
 use Rattle.octets.specs.Lists.{at}
 use Rattle.cipher.proofs.Cases.{m2, m3, m4, m5, m6, m7, m8}
@@ -20,7 +22,7 @@ use Rattle.frames.specs.declared.Layer.the-variants.{Network}
 use Rattle.frames.specs.declared.Secured.{Secured}
 use Rattle.frames.specs.Security.{identifierOf, extendedOf, nonceOf, withLevel, wireControl, auxLength, senderOf}
 use Rattle.frames.specs.Network.{networkKeyed}
-use Rattle.frames.specs.Reading.{refused, secured, announced, readSecured, readNetwork}
+use Rattle.frames.specs.Reading.{refused, secured, announced, readHeader, readSecured, reading}
 use Rattle.frames.proofs.Controls.{aux-numbered}
 use Rattle.answers.specs.Numbers.{turnedDown}
 use Rattle.board.specs.declared.Board.{Board}
@@ -28,12 +30,13 @@ use Rattle.board.specs.declared.Link.{Link}
 use Rattle.board.specs.declared.Place.{Place}
 use Rattle.board.specs.declared.Place.the-variants.{At, Absent}
 use Rattle.board.specs.Places.{firstAt}
-use Rattle.board.specs.Rows.{listsFit, findRow}
+use Rattle.board.specs.Rows.{Lists, lists, listsFit, findRow}
 use Rattle.board.specs.State.{linkAt, pairs}
 use Rattle.board.specs.Requests.{linkOf}
 use Rattle.board.proofs.Found.{FoundAt, first-found, first-none, row-place, lists-long}
-use Rattle.seals.proofs.Opened.{message-length, sound-tells, both-true}
-use Rattle.network.specs.Opening.{floorAt, floorOf, orFree, rowFor, admitted, openedUnder}
+use Rattle.seals.proofs.Opened.{message-length, sound-tells}
+use Rattle.seals.proofs.Fairly.{ours-fair}
+use Rattle.network.specs.Opening.{Lent, floorAt, floorOf, orFree, rowFor, admitted, openedUnder}
 use Rattle.network.proofs.Admission.{read-sound, row-there}
 use Rattle.cases.specs.Cases.{M1, Trial, PassesRow, atRow, PassesEntry, atEntry, AtBoth, Seven, M9, Last, M10, Top, M11}
 use Rattle.cases.specs.Cases.{Eight, Empty, M12, Cases}
@@ -47,16 +50,16 @@ m1 = refl
 
 -- what opening does with counter and floor, of one trial
 record Judged (t : Trial) : Type 0 where
-  pub atTop : t .counter ≡ 4294967295 → t .answer ≡ turnedDown 7
-  pub stale : (t .counter ≡ 4294967295 → ⊥) → t .counter < t .floor → t .answer ≡ turnedDown 8
-  pub raises : (t .counter ≡ 4294967295 → ⊥) → t .floor ≤ t .counter → t .Passes → t .leaves ≡ t .counter + 1
+  pub atTop : t .counter ≡ top → t .answer ≡ turnedDown 7
+  pub stale : (t .counter ≡ top → ⊥) → t .counter < t .floor → t .answer ≡ turnedDown 8
+  pub raises : (t .counter ≡ top → ⊥) → t .floor ≤ t .counter → t .Passes → t .leaves ≡ t .counter + 1
 
 -- the first place that passes
 first-is : (p : ℕ → Bool) (n i r : ℕ) → i ≤ r → r < i + n → p r ≡ true → ((k : ℕ) → i ≤ k → k < r → p k ≡ false) → firstAt p i n ≡ At r
 first-is p n i r low high t before = go (firstAt p i n) refl
   where
     clash : {A : Type 0} (k : ℕ) → p k ≡ true → p k ≡ false → A
-    clash k x y = let z : _≡_ {A = ℕ} 0 1 = cc in absurd (omega arith)
+    clash k x y = let never : _≡_ {A = ℕ} 0 1 = cc in absurd (omega arith)
 
     same : (q : ℕ) → FoundAt p i n q → q ≡ r
     same q w =
@@ -67,7 +70,13 @@ first-is p n i r low high t before = go (firstAt p i n) refl
     go (At q) e = e ∙ ap At (same q (first-found p n i q e))
     go Absent e = clash r t (first-none p n i e r low high)
 
-module _ (h : ℕ) (al : List ℕ) (i a r : ℕ) (e : rowFor h al i a ≡ At r) where
+module _ (z : Settings) (w₀ : Lists) (i a r : ℕ) (e : rowFor z w₀ i a ≡ At r) where
+  abbrev h : ℕ
+  h = z .rows
+
+  abbrev al : List ℕ
+  al = w₀ .addrs
+
   abbrev rows : ℕ
   rows = min h (length al - i * h)
 
@@ -89,35 +98,36 @@ module _ (h : ℕ) (al : List ℕ) (i a r : ℕ) (e : rowFor h al i a ≡ At r) 
   unfolding rowFor findRow
   heard = go (findRow al (i * h) h a) refl e
     where
-      go : (x : Place) → findRow al (i * h) h a ≡ x → orFree h al i x ≡ At r → findRow (set al r a) (i * h) h a ≡ At r
+      go : (x : Place) → findRow al (i * h) h a ≡ x → orFree z w₀ i x ≡ At r → findRow (set al r a) (i * h) h a ≡ At r
       go (At q) d u = lowest a (d ∙ u) (first-found (has al a) rows (i * h) r (d ∙ u) .before)
       go Absent d u =
           let high = first-found (has al 0) rows (i * h) r u .high in
           lowest 0 u (λ k b c. first-none (has al a) rows (i * h) d k b (omega arith))
 
 -- the floor that a sender finds behind its row's change
-left-floor : (h : ℕ) (al fl : List ℕ) (i a r v : ℕ) → rowFor h al i a ≡ At r → listsFit h al fl ≡ true
-    → floorOf h (set al r a) (set fl r v) i a ≡ v
+left-floor : (z : Settings) (w : Lists) (i a r v : ℕ) → rowFor z w i a ≡ At r → listsFit z w ≡ true
+    → floorOf z (lists (set (w .addrs) r a) (set (w .floors) r v)) i a ≡ v
 unfolding floorOf
-left-floor h al fl i a r v e f =
-    let w = lists-long h al fl f in
-    let there : r < length fl = omega (arith, w .0, w .1, row-there h al i a r e) in
-    ap (floorAt (set fl r v)) (heard h al i a r e) ∙ getD-set-same fl r v 0 there
+left-floor z w i a r v e f =
+    let t = lists-long z w f in
+    let there : r < length (w .floors) = omega (arith, t .0, t .1, row-there z w i a r e) in
+    ap (floorAt (set (w .floors) r v)) (heard z w i a r e) ∙ getD-set-same (w .floors) r v 0 there
 
-row-raises : (k f : List ℕ) (s : Secured) (al fl o : List ℕ) (i : ℕ) → (s .counter ≡ 4294967295 → ⊥)
-    → floorOf 32 al fl i (s .sender) ≤ s .counter → PassesRow k f s al fl i
-    → floorOf 32 (openedUnder 32 k i f s al fl o .addrs) (openedUnder 32 k i f s al fl o .floors) i (s .sender) ≡ s .counter + 1
+row-raises : (k : Key) (f : List ℕ) (s : Secured) (w : Lent) (i : ℕ) → (s .counter ≡ top → ⊥)
+    → floorOf ours (w .lists) i (s .sender) ≤ s .counter → PassesRow k f s (w .lists) i
+    → floorOf ours (openedUnder ours k i f s w .leaves .lists) i (s .sender) ≡ s .counter + 1
 unfolding openedUnder admitted
-row-raises k f s al fl o i n l p =
-    simp (ne-eqb _ _ n, le-ltb _ _ l, p .tag, p .found) (left-floor 32 al fl i (s .sender) (p .row) (s .counter + 1) (p .found) (p .lists))
+row-raises k f s w i n l p =
+    simp (ne-eqb _ _ n, le-ltb _ _ l, p .tag, p .found)
+    (left-floor ours (w .lists) i (s .sender) (p .row) (s .counter + 1) (p .found) (p .lists))
 
-judged-row : (k f : List ℕ) (s : Secured) (al fl o : List ℕ) (i : ℕ) → Judged (atRow k f s al fl o i)
+judged-row : (k : Key) (f : List ℕ) (s : Secured) (w : Lent) (i : ℕ) → Judged (atRow k f s w i)
 unfolding openedUnder
-judged-row k f s al fl o i =
+judged-row k f s w i =
     record {
       atTop = λ c. simp (eq-eqb _ _ c);
       stale = λ n l. simp (ne-eqb _ _ n, lt-ltb _ _ l);
-      raises = row-raises k f s al fl o i;
+      raises = row-raises k f s w i;
     }
 
 -- the entry that was found is one that the list has: past its end nothing is present
@@ -126,13 +136,13 @@ unfolding linkOf pairs
 entry-there b a i e = go (b .links) i (first-found (λ x. pairs (linkAt (b .links) x) a) 8 0 i e .passes)
   where
     go : (l : List Link) (j : ℕ) → pairs (linkAt l j) a ≡ true → j < length l
-    go [] j t = let z : _≡_ {A = ℕ} 0 1 = cc in absurd (omega arith)
+    go [] j t = let never : _≡_ {A = ℕ} 0 1 = cc in absurd (omega arith)
     go (x ∷ l) zero t = omega arith
     go (x ∷ l) (suc j) t = let h = go l j t in omega arith
 
-entry-raises : (b : Board) (f : List ℕ) (s : Secured) (o : List ℕ) (i : ℕ) → (s .counter ≡ 4294967295 → ⊥)
+entry-raises : (b : Board) (f : List ℕ) (s : Secured) (o : List ℕ) (i : ℕ) → (s .counter ≡ top → ⊥)
     → linkAt (b .links) i .floor ≤ s .counter → PassesEntry b f s i
-    → linkAt (aps.openedUnder b f s o i .board .links) i .floor ≡ s .counter + 1
+    → linkAt (aps.openedUnder ours b f s o i .board .links) i .floor ≡ s .counter + 1
 unfolding aps.openedUnder aps.admitted
 entry-raises b f s o i n l p =
     simp (ne-eqb _ _ n, le-ltb _ _ l, p .tag)
@@ -150,7 +160,7 @@ judged-entry b f s o i =
 -- what follows of every trial holds at both layers
 at-both : (P : Trial → Type 0) → ((t : Trial) → Judged t → P t) → AtBoth P
 at-both P h = (
-  λ k f s al fl o i. h (atRow k f s al fl o i) (judged-row k f s al fl o i),
+  λ k f s w i. h (atRow k f s w i) (judged-row k f s w i),
   λ b f s o i. h (atEntry b f s o i) (judged-entry b f s o i),
 )
 
@@ -159,15 +169,15 @@ m9 = at-both Seven seven
   where
     seven : (t : Trial) → Judged t → Seven t
     seven t j e = (
-      λ c. j .stale (λ z. omega arith) (omega arith),
-      λ c p. j .raises (λ z. omega arith) (omega arith) p ∙ omega arith,
+      λ c. j .stale (λ zz. omega arith) (omega arith),
+      λ c p. j .raises (λ zz. omega arith) (omega arith) p ∙ omega arith,
     )
 
 m10 : M10
 m10 = at-both Last last
   where
     last : (t : Trial) → Judged t → Last t
-    last t j c l p = j .raises (λ z. omega arith) (omega arith) p ∙ omega arith
+    last t j c l p = j .raises (λ zz. omega arith) (omega arith) p ∙ omega arith
 
 m11 : M11
 m11 = at-both Top λ t j. j .atTop
@@ -177,16 +187,16 @@ m11 = at-both Top λ t j. j .atTop
 module _ (f : List ℕ) (e : Eight f) where
   extended : extendedOf (at f 8) ≡ 1
   unfolding networkKeyed
-  extended = eqb-true _ _ (both-true (eqb (identifierOf (at f 8)) 1) (eqb (extendedOf (at f 8)) 1) (e .suited) .1)
+  extended = eqb-true _ _ (both-parts (eqb (identifierOf (at f 8)) 1) (eqb (extendedOf (at f 8)) 1) (e .suited) .1)
 
   aux-of : auxLength (at f 8) ≡ 14
   unfolding networkKeyed
   aux-of =
-      let n = both-true (eqb (identifierOf (at f 8)) 1) (eqb (extendedOf (at f 8)) 1) (e .suited) .0 in
+      let n = both-parts (eqb (identifierOf (at f 8)) 1) (eqb (extendedOf (at f 8)) 1) (e .suited) .0 in
       omega (arith, aux-numbered (at f 8) (eqb-true _ _ n), extended)
 
-  cut-short : length f ≡ 25 → readNetwork f ≡ refused 3
-  unfolding readNetwork readSecured
+  cut-short : length f ≡ 25 → reading ours Network f 0 ≡ refused 3
+  unfolding reading readHeader readSecured
   cut-short l =
       let two : 2 ≤ length f = omega arith in
       let past : 8 < length f = omega arith in
@@ -198,8 +208,8 @@ module _ (f : List ℕ) (e : Eight f) where
     unfolding senderOf
     sender-of = simp (eq-eqb _ _ extended) someone
 
-    reads-so : readNetwork f ≡ secured (announced f 8 0)
-    unfolding readNetwork readSecured
+    reads-so : reading ours Network f 0 ≡ secured (announced f 8 0)
+    unfolding reading readHeader readSecured
     reads-so =
         let two : 2 ≤ length f = omega arith in
         let past : 8 < length f = omega arith in
@@ -210,8 +220,8 @@ module _ (f : List ℕ) (e : Eight f) where
     bare-so = omega (arith, aux-of)
 
     none-left : (m : List ℕ) → length m ≡ 0 → m ≡ []
-    none-left [] z = refl
-    none-left (x ∷ m) z = absurd (omega arith)
+    none-left [] zz = refl
+    none-left (x ∷ m) zz = absurd (omega arith)
 
     empty-so : Empty f (announced f 8 0)
     unfolding announced
@@ -219,8 +229,8 @@ module _ (f : List ℕ) (e : Eight f) where
         record {
           reads = reads-so;
           bare = bare-so;
-          opens = λ k m v. let t = sound-tells f _ (read-sound f _ reads-so (omega arith)) in
-              none-left m (message-length k Network f _ (replicate 116 0) t (omega arith) m v ∙ omega (arith, aux-of));
+          opens = λ k m v. let t = sound-tells ours f _ (read-sound ours f _ reads-so (omega arith)) in
+              none-left m (message-length ours ours-fair k Network f _ (replicate longest 0) t (omega arith) m v ∙ omega (arith, aux-of));
         }
 
 m12 : M12

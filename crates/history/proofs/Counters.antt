@@ -10,7 +10,7 @@ use lib.Dec.{eqb, ltb, leb}
 use lib.ListN.{length}
 use borrow.Author.Tests.{eqb-true, eqb-false, ne-eqb, ltb-true, ltb-false, leb-true, leb-false, le-leb, lt-leb}
 use Rattle.octets.specs.Choice.{if_then_else_, both}
-use Rattle.history.specs.Events.{Heard, without, isFrom, senders}
+use Rattle.history.specs.Events.{HeardFrame, without, isFrom, senders}
 use Rattle.history.specs.Statement.{aboveAll}
 use Rattle.history.proofs.Searches.{clash, bit}
 
@@ -21,11 +21,11 @@ bound [] = 0
 bound (c ∷ l) = max (c + 1) (bound l)
 
 -- those of sender a
-abbrev pub counters : ℕ → List Heard → List ℕ
+abbrev pub counters : ℕ → List HeardFrame → List ℕ
 counters a [] = []
 counters a (r ∷ l) = if eqb (r .sender) a then r .counter ∷ counters a l else counters a l
 
-pub above-bound : (a n : ℕ) (l : List Heard) → aboveAll a n l ≡ leb (bound (counters a l)) n
+pub above-bound : (a n : ℕ) (l : List HeardFrame) → aboveAll a n l ≡ leb (bound (counters a l)) n
 above-bound a n [] = sym (le-leb 0 n (omega arith))
 above-bound a n (r ∷ l) = ap (both (if eqb (r .sender) a then ltb (r .counter) n else true)) (above-bound a n l) ∙ from (eqb (r .sender) a)
   where
@@ -118,15 +118,15 @@ less-less a b (c ∷ l) = go (less-less a b l) (eqb c a) refl (eqb c b) refl
 
 -- ---- the senders of frames
 
-abbrev pub names : List Heard → List ℕ
+abbrev pub names : List HeardFrame → List ℕ
 names [] = []
 names (r ∷ l) = r .sender ∷ less (r .sender) (names l)
 
-pub names-distinct : (l : List Heard) → Distinct (names l)
+pub names-distinct : (l : List HeardFrame) → Distinct (names l)
 names-distinct [] = no-one
 names-distinct (r ∷ l) = one-more (member-less (r .sender) (names l)) (distinct-less (r .sender) (names l) (names-distinct l))
 
-pub from-names : (a : ℕ) (l : List Heard) → isFrom a l ≡ member a (names l)
+pub from-names : (a : ℕ) (l : List HeardFrame) → isFrom a l ≡ member a (names l)
 from-names a [] = refl
 from-names a (r ∷ l) = go (from-names a l) (eqb (r .sender) a) refl
   where
@@ -135,7 +135,7 @@ from-names a (r ∷ l) = go (from-names a l) (eqb (r .sender) a) refl
     go ih true e = refl
     go ih false e = ih ∙ sym (member-other (r .sender) a (names l) (eqb-false (r .sender) a e))
 
-pub senders-names : (l : List Heard) → senders l ≡ length (names l)
+pub senders-names : (l : List HeardFrame) → senders l ≡ length (names l)
 senders-names [] = refl
 senders-names (r ∷ l) =
     go (senders-names l) (length-less (r .sender) (names l) (names-distinct l)) (member (r .sender) (names l)) refl (isFrom (r .sender) l)
@@ -149,7 +149,7 @@ senders-names (r ∷ l) =
 
 -- ---- a sender forgotten
 
-pub names-without : (a : ℕ) (l : List Heard) → names (without a l) ≡ less a (names l)
+pub names-without : (a : ℕ) (l : List HeardFrame) → names (without a l) ≡ less a (names l)
 names-without a [] = refl
 names-without a (r ∷ l) = go (names-without a l) (eqb (r .sender) a) refl
   where
@@ -160,7 +160,7 @@ names-without a (r ∷ l) = go (names-without a l) (eqb (r .sender) a) refl
         ih ∙ sym (less-twice a (names l)) ∙ ap (λ (x : ℕ). less a (less x (names l))) (sym (eqb-true (r .sender) a e))
     go ih false e = ap (λ (x : List ℕ). r .sender ∷ x) (ap (less (r .sender)) ih ∙ less-less (r .sender) a (names l))
 
-pub counters-gone : (a : ℕ) (l : List Heard) → counters a (without a l) ≡ []
+pub counters-gone : (a : ℕ) (l : List HeardFrame) → counters a (without a l) ≡ []
 counters-gone a [] = refl
 counters-gone a (r ∷ l) = go (counters-gone a l) (eqb (r .sender) a) refl
   where
@@ -168,7 +168,7 @@ counters-gone a (r ∷ l) = go (counters-gone a l) (eqb (r .sender) a) refl
     go ih true e = ih
     go ih false e = rw e ih
 
-pub counters-other : (a b : ℕ) (l : List Heard) → (a ≡ b → ⊥) → counters b (without a l) ≡ counters b l
+pub counters-other : (a b : ℕ) (l : List HeardFrame) → (a ≡ b → ⊥) → counters b (without a l) ≡ counters b l
 counters-other a b [] ne = refl
 counters-other a b (r ∷ l) ne = go (counters-other a b l ne) (eqb (r .sender) a) refl
   where

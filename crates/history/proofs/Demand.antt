@@ -1,12 +1,12 @@
 -- Demand 3.
 -- Assumes nothing.
+use Rattle.settings.specs.Settings.{ours}
 use Rattle.history.specs.Running.{Demand3, OurDemand3}
 use Rattle.history.proofs.First.{first}
 use Rattle.history.proofs.Second.{second}
-use Rattle.board.specs.Rows.{half}
 
 pub demand-3 : Demand3
-demand-3 m own wide made = (first m own wide made, second m own)
+demand-3 z own wide made = (first z own wide made, second z own)
 
 pub our-demand-3 : OurDemand3
-our-demand-3 = demand-3 half
+our-demand-3 = demand-3 ours

@@ -8,38 +8,33 @@ use native.Mathlib.Omega.{arith}
 use lib.ListN.{length, take, drop}
 use lib.Seq.{take-at}
 use borrow.Author.Tests.{ne-eqb, lt-ltb}
+use Rattle.settings.specs.Settings.{Settings, top}
 use Rattle.octets.proofs.Choices.{choose}
 use Rattle.octets.specs.Addresses.{noAddress}
 use Rattle.octets.specs.Choice.{if_then_else_, both}
 use Rattle.octets.specs.Lists.{Octets}
 use Rattle.history.specs.Calls.{Call, install, switch, addLink, removeLink, forget, opening, sealing, looking, writing, Reply, refuses, handedOut, exchanges, toSeal, SealsOctets}
-use Rattle.history.specs.Events.{Holder, slot, link, Key, key, Event, keyIn, sameKey, sentIn}
-use Rattle.history.specs.Story.{installing, hearing, telling, eventsOf, readAt, story}
+use Rattle.history.specs.Events.{Holder, slot, link, Installation, key, Event, keyIn, sameKey, sentIn}
+use Rattle.history.specs.Story.{installing, hearing, telling, eventsOf, story}
 use Rattle.history.specs.Statement.{readings, lower, rising, First}
-use Rattle.history.specs.Running.{Held, byAps, bySeal, step, run, replies}
+use Rattle.history.specs.Running.{Held, byFrame, step, run, replies}
 use Rattle.history.proofs.Ways.{aps-ways, Made, network-seals, aps-seals, writes}
 use Rattle.answers.specs.Numbers.{done, refused as declined}
 use Rattle.frames.specs.declared.Layer.{Layer}
 use Rattle.frames.specs.declared.Layer.the-variants.{Network, Aps}
 use Rattle.frames.specs.declared.Secured.{Secured}
-use Rattle.frames.specs.Reading.{Reading, refused, plain, secured}
-use Rattle.frames.proofs.Layers.{reading}
+use Rattle.frames.specs.Reading.{Reading, refused, plain, secured, reading}
 use Rattle.board.specs.declared.Board.{Board}
 use Rattle.board.specs.State.{fresh}
-use Rattle.board.specs.Sending.{top, spent, Framed}
+use Rattle.board.specs.Sending.{spent, Framed}
 use Rattle.board.specs.Requests.{Changed, make}
 use Rattle.board.proofs.Untouched.{install-keeps, switch-keeps, add-keeps, remove-keeps}
 use Rattle.seals.specs.Sealing.{sealedFrame}
 use Rattle.seals.proofs.Again.{ToSeal, announcing, read-again, length-again}
-use Rattle.aps.specs.Opening as aps
 use Rattle.commands.specs.declared.Command.{Command}
 use Rattle.commands.specs.Writing.{counted}
 
 -- ---- a sealed frame, as its receiver reads it
-
-pub read-same : (l : Layer) (f : List ℕ) (a : ℕ) → readAt l f a ≡ reading l f a
-read-same Network f a = refl
-read-same Aps f a = refl
 
 module _ (l : Layer) (b : Board) (f o : List ℕ) (n : ℕ) (p : List ℕ) (t : Made l b f o n p) (octets : Octets f) (low : b .outgoing < 2 ^ 32)
     (wide : b .own < 2 ^ 64) (someone : noAddress (b .own) ≡ false) where
@@ -49,11 +44,10 @@ module _ (l : Layer) (b : Board) (f o : List ℕ) (n : ℕ) (p : List ℕ) (t : 
   frame : List ℕ
   frame = sealedFrame (t .key) l (t .named) (b .outgoing) (b .own) (t .number) f (t .header)
 
-  read-made : readAt l (take n p) 0 ≡ secured (announcing (t .header) (t .named) (b .outgoing) (b .own) (t .number))
+  read-made : reading z l (take n p) 0 ≡ secured (announcing (t .header) (t .named) (b .outgoing) (b .own) (t .number))
   unfolding frame
   read-made =
-      read-same l (take n p) 0
-      ∙ ap (λ (g : List ℕ). reading l g 0)
+      ap (λ (g : List ℕ). reading l g 0)
       (ap (take n) (t .out) ∙ take-at frame (drop (length frame) o) n (length-again (t .key) (t .number) to-seal ∙ sym (t .count)))
       ∙ read-again (t .key) (t .number) to-seal 0
 
@@ -76,7 +70,7 @@ quiet r es h q = go (refuses r)
     go true = refl
     go false = q
 
-quiet-installing : (h : List Event) (x : Holder) (k : Key) → sentIn (installing h x k ++ h) ≡ sentIn h
+quiet-installing : (h : List Event) (x : Holder) (k : Installation) → sentIn (installing h x k ++ h) ≡ sentIn h
 quiet-installing h x k = go (sameKey (keyIn h x) k) refl
   where
     go : (t : Bool) → sameKey (keyIn h x) k ≡ t → sentIn (installing h x k ++ h) ≡ sentIn h
@@ -88,17 +82,17 @@ quiet-hearing h l f p (secured s) = refl
 quiet-hearing h l f p (plain n) = refl
 quiet-hearing h l f p (refused n) = refl
 
-module _ (m own : ℕ) (wide : own < 2 ^ 64) (someone : noAddress own ≡ false) (x : Held) (h : List Event)
-    (w : Sends own (x .board) (readings (sentIn h))) where
+module _ (z : Settings) (own : ℕ) (wide : own < 2 ^ 64) (someone : noAddress own ≡ false) (x : Held) (h : List Event)
+    (w : Sends own (x .board) (readings z (sentIn h))) where
   abbrev b : Board
   b = x .board
 
   abbrev After : Call → Type 0
-  After c = Sends own (step m c x .after .board) (readings (sentIn (eventsOf h c (step m c x .reply) ++ h)))
+  After c = Sends own (step z c x .after .board) (readings z (sentIn (eventsOf z h c (step z c x .reply) ++ h)))
 
   -- the counter of a frame that is sealed is above the last one's
   sends-made : (l : Layer) (f o : List ℕ) → Octets f → (n : ℕ) (p : List ℕ) → Made l b f o n p
-      → Sends own (spent b) (readAt l (take n p) 0 ∷ readings (sentIn h))
+      → Sends own (spent b) (reading z l (take n p) 0 ∷ readings z (sentIn h))
   unfolding spent
   sends-made l f o octets n p t =
       rw (read-made l b f o n p t octets (omega (arith, w .low)) (rw (w .owned) wide) (rw (w .owned) someone), ne-eqb (b .outgoing) top (t .below))
@@ -112,31 +106,31 @@ module _ (m own : ℕ) (wide : own < 2 ^ 64) (someone : noAddress own ≡ false)
   sends-seal : (l : Layer) (f : List ℕ) (a k : ℕ) (o : List ℕ) → Octets f → After (sealing l f a k o)
   sends-seal Network f a k o octets =
       network-seals b f o
-      (λ (r : Framed). Sends own (bySeal x r .after .board) (readings (sentIn (eventsOf h (sealing Network f a k o) (bySeal x r .reply) ++ h))))
+      (λ (r : Framed). Sends own (byFrame x r .after .board) (readings z (sentIn (eventsOf z h (sealing Network f a k o) (byFrame x r .reply) ++ h))))
       (λ n. w) (sends-made Network f o octets)
   sends-seal Aps f a k o octets =
       aps-seals b f a k o
-      (λ (r : Framed). Sends own (bySeal x r .after .board) (readings (sentIn (eventsOf h (sealing Aps f a k o) (bySeal x r .reply) ++ h))))
+      (λ (r : Framed). Sends own (byFrame x r .after .board) (readings z (sentIn (eventsOf z h (sealing Aps f a k o) (byFrame x r .reply) ++ h))))
       (λ n. w) (sends-made Aps f o octets)
 
-  sends-aps : (f : List ℕ) (g : ℕ) (o : List ℕ) → Sends own (step m (opening Aps f g o) x .after .board) (readings (sentIn h))
+  sends-aps : (f : List ℕ) (g : ℕ) (o : List ℕ) → Sends own (step z (opening Aps f g o) x .after .board) (readings z (sentIn h))
   sends-aps f g o =
-      aps-ways b f g o (λ (r : aps.Opening). Sends own (byAps x r .after .board) (readings (sentIn h))) (λ n. w) (λ n p e. w)
+      aps-ways b f g o (λ (r : Framed). Sends own (byFrame x r .after .board) (readings z (sentIn h))) (λ n. w) (λ n p e. w)
       (λ s i n p t. kept w refl refl refl)
 
-  sends-write : (a : Bool) (c : Command) (k r o : List ℕ) → Sends own (step m (writing a c k r o) x .after .board) (readings (sentIn h))
+  sends-write : (a : Bool) (c : Command) (k r o : List ℕ) → Sends own (step z (writing a c k r o) x .after .board) (readings z (sentIn h))
   unfolding counted
   sends-write a c k r o =
-      writes b a c k r o (λ (w : Framed). Sends own (bySeal x w .after .board) (readings (sentIn h))) (λ n. w) (λ n p. kept w refl refl refl)
+      writes b a c k r o (λ (w : Framed). Sends own (byFrame x w .after .board) (readings z (sentIn h))) (λ n. w) (λ n p. kept w refl refl refl)
 
   -- a call that tells nothing of sealing
-  silent : (c : Call) → Sends own (step m c x .after .board) (readings (sentIn h))
-      → sentIn (telling h c (handedOut (step m c x .reply)) ++ h) ≡ sentIn h → After c
-  silent c v q = kept v refl refl (ap readings (quiet (step m c x .reply) (telling h c (handedOut (step m c x .reply))) h q))
+  silent : (c : Call) → Sends own (step z c x .after .board) (readings z (sentIn h))
+      → sentIn (telling z h c (handedOut (step z c x .reply)) ++ h) ≡ sentIn h → After c
+  silent c v q = kept v refl refl (ap readings z (quiet (step z c x .reply) (telling z h c (handedOut (step z c x .reply))) h q))
 
   sends-step : (c : Call) → Octets (toSeal c) → After c
   sends-step (install i n k) o =
-      let t = install-keeps m b (x .addrs) (x .floors) i n k in
+      let t = install-keeps z b (x .lists .addrs) (x .lists .floors) i n k in
       silent (install i n k) (kept w (t .own) (t .outgoing) refl) (quiet-installing h (slot i) (key n k))
   sends-step (switch n) o = let t = switch-keeps b n in silent (switch n) (kept w (t .own) (t .outgoing) refl) refl
   sends-step (addLink a k) o =
@@ -144,9 +138,9 @@ module _ (m own : ℕ) (wide : own < 2 ^ 64) (someone : noAddress own ≡ false)
   sends-step (removeLink a) o = let t = remove-keeps b a in silent (removeLink a) (kept w (t .own) (t .outgoing) refl) refl
   sends-step (forget i a) o = silent (forget i a) w refl
   sends-step (opening Network f g p) o =
-      silent (opening Network f g p) w (quiet-hearing h Network f (handedOut (step m (opening Network f g p) x .reply)) (readAt Network f g))
+      silent (opening Network f g p) w (quiet-hearing h Network f (handedOut (step z (opening Network f g p) x .reply)) (reading z Network f g))
   sends-step (opening Aps f g p) o =
-      silent (opening Aps f g p) (sends-aps f g p) (quiet-hearing h Aps f (handedOut (step m (opening Aps f g p) x .reply)) (readAt Aps f g))
+      silent (opening Aps f g p) (sends-aps f g p) (quiet-hearing h Aps f (handedOut (step z (opening Aps f g p) x .reply)) (reading z Aps f g))
   sends-step (sealing l f a k p) o = sends-seal l f a k p o
   sends-step (looking Network f g) o = w
   sends-step (looking Aps f g) o = w
@@ -159,16 +153,16 @@ unfolding make
 sends-fresh own = choose (λ (r : Changed). r .answer ≡ done → (noAddress own ≡ false) × Sends own (r .board) []) (noAddress own) _ _ none made
   where
     none : noAddress own ≡ true → declined 14 ≡ done → (noAddress own ≡ false) × Sends own (fresh 0) []
-    none t e = let z : _≡_ {A = ℕ} 0 1 = cc in absurd (omega arith)
+    none t e = let never : _≡_ {A = ℕ} 0 1 = cc in absurd (omega arith)
 
     made : noAddress own ≡ false → done ≡ done → (noAddress own ≡ false) × Sends own (fresh own) []
     made t e = (t, record { owned = refl; low = omega arith; below = refl; rises = refl })
 
-sends : (m own : ℕ) → own < 2 ^ 64 → make own .answer ≡ done → (cs : List Call) → SealsOctets cs
-    → Sends own (run m own cs .board) (readings (sentIn (story (exchanges (replies m own) cs))))
-sends m own wide e [] o = sends-fresh own e .1
-sends m own wide e (c ∷ cs) o =
-    sends-step m own wide (sends-fresh own e .0) (run m own cs) (story (exchanges (replies m own) cs)) (sends m own wide e cs (o .1)) c (o .0)
+sends : (z : Settings) (own : ℕ) → own < 2 ^ 64 → make own .answer ≡ done → (cs : List Call) → SealsOctets cs
+    → Sends own (run z own cs .board) (readings z (sentIn (story z (exchanges (replies z own) cs))))
+sends z own wide e [] o = sends-fresh own e .1
+sends z own wide e (c ∷ cs) o =
+    sends-step z own wide (sends-fresh own e .0) (run z own cs) (story z (exchanges (replies z own) cs)) (sends z own wide e cs (o .1)) c (o .0)
 
-pub first : (m own : ℕ) → own < 2 ^ 64 → make own .answer ≡ done → First (replies m own)
-first m own wide e cs o = sends m own wide e cs o .rises
+pub first : (z : Settings) (own : ℕ) → own < 2 ^ 64 → make own .answer ≡ done → First (replies z own)
+first z own wide e cs o = sends z own wide e cs o .rises

@@ -11,13 +11,15 @@ use native.Mathlib.Omega.{arith}
 use lib.Dec.{eqb, leb, ltb}
 use lib.ListN.{length, getD}
 use borrow.Author.Tests.{eqb-true, eqb-false, eq-eqb, ne-eqb, lt-ltb, le-ltb, le-leb, ltb-true}
+use Rattle.octets.specs.Keys.{Key}
+use Rattle.settings.specs.Settings.{Settings, longest, top}
 use Rattle.octets.specs.Choice.{if_then_else_, both}
 use Rattle.octets.specs.Lists.{Octets}
 use Rattle.history.specs.Calls.{Call, install, opening, Reply, gave, refuses, Exchange, Replies, exchanges, SealsOctets}
-use Rattle.history.specs.Events.{Holder, slot, link, nowhere, Key, none, key, Heard, Event, keyed, forgot, heard, sent, same, keyIn, slotFor, holderFor, without, heardIn, sentIn}
-use Rattle.history.specs.Story.{readAt, eventsOf, story}
+use Rattle.history.specs.Events.{Holder, slot, link, nowhere, Installation, none, key, HeardFrame, Event, keyed, forgot, heard, sent, same, keyIn, slotFor, holderFor, without, heardIn, sentIn}
+use Rattle.history.specs.Story.{eventsOf, story}
 use Rattle.history.specs.Statement.{readings, lower, rising, First, longestAt, keyAt, aboveAll, room, passesUnder, passesRead, passes, Rightly, Second}
-use Rattle.history.specs.Running.{Held, byNetwork, byAps, step, run, replies}
+use Rattle.history.specs.Running.{Held, byNetwork, byFrame, step, run, replies}
 use Rattle.history.proofs.Searches.{clash}
 use Rattle.history.proofs.First.{read-same}
 use Rattle.history.proofs.Second.{key-nowhere, plain-not}
@@ -27,14 +29,13 @@ use Rattle.frames.specs.declared.Layer.{Layer}
 use Rattle.frames.specs.declared.Layer.the-variants.{Network, Aps}
 use Rattle.frames.specs.declared.Secured.{Secured}
 use Rattle.frames.specs.Security.{identifierOf}
-use Rattle.frames.specs.Reading.{Reading, refused, plain, secured}
+use Rattle.frames.specs.Reading.{Reading, refused, plain, secured, reading}
 use Rattle.board.specs.Places.{firstAt}
-use Rattle.board.specs.Sending.{top}
-use Rattle.seals.specs.Sealing.{longest, genuine, sentOctets, sealedFrame}
+use Rattle.seals.specs.Sealing.{genuine, sentOctets, sealedFrame}
 use Rattle.seals.proofs.Again.{ToSeal, announcing, read-again, message-again, length-again, octets-again}
-use Rattle.seals.proofs.Opened.{both-true}
+use Rattle.octets.proofs.Choices.{both-parts}
 use Rattle.network.specs.Opening as network
-use Rattle.aps.specs.Opening as aps
+use Rattle.board.specs.Sending.{Framed}
 
 both-false : (t : Bool) → both t false ≡ false
 both-false true = refl
@@ -49,8 +50,8 @@ not-back false u e = ap not e
 -- two frames, each read as secured, with different counters
 abbrev pub Apart : Reading → Reading → Type 0
 Apart (secured s) (secured t) = s .counter ≡ t .counter → ⊥
-Apart (secured s) (plain m) = ⊥
-Apart (secured s) (refused m) = ⊥
+Apart (secured s) (plain n) = ⊥
+Apart (secured s) (refused n) = ⊥
 Apart (plain n) r = ⊥
 Apart (refused n) r = ⊥
 
@@ -68,7 +69,7 @@ below-at : (rs : List Reading) (n : ℕ) → rising rs ≡ true → lower rs n �
 below-at [] n r l j h = absurd (omega arith)
 below-at (secured s ∷ rs) n r l zero h = ltb-true (s .counter) n l
 below-at (secured s ∷ rs) n r l (suc j) h =
-    let t = both-true (lower rs (s .counter)) (rising rs) r in
+    let t = both-parts (lower rs (s .counter)) (rising rs) r in
     below-less (s .counter) n (getD rs j (plain 0)) (ltb-true (s .counter) n l) (below-at rs (s .counter) (t .1) (t .0) j (omega arith))
 below-at (plain k ∷ rs) n r l j h = clash r refl
 below-at (refused k ∷ rs) n r l j h = clash r refl
@@ -82,17 +83,17 @@ rising-apart : (rs : List Reading) → rising rs ≡ true → (i j : ℕ) → i 
 rising-apart [] r i j h k = absurd (omega arith)
 rising-apart (secured s ∷ rs) r i zero h k = absurd (omega arith)
 rising-apart (secured s ∷ rs) r zero (suc j) h k =
-    let t = both-true (lower rs (s .counter)) (rising rs) r in
+    let t = both-parts (lower rs (s .counter)) (rising rs) r in
     below-apart s (getD rs j (plain 0)) (below-at rs (s .counter) (t .1) (t .0) j (omega arith))
 rising-apart (secured s ∷ rs) r (suc i) (suc j) h k =
-    rising-apart rs (both-true (lower rs (s .counter)) (rising rs) r .1) i j (omega arith) (omega arith)
+    rising-apart rs (both-parts (lower rs (s .counter)) (rising rs) r .1) i j (omega arith) (omega arith)
 rising-apart (plain n ∷ rs) r i j h k = clash r refl
 rising-apart (refused n ∷ rs) r i j h k = clash r refl
 
-pub no-two-same : (board : Replies) → First board → (cs : List Call) → SealsOctets cs
-    → let rs = readings (sentIn (story (exchanges board cs))) in
+pub no-two-same : (z : Settings) (board : Replies) → First z board → (cs : List Call) → SealsOctets cs
+    → let rs = readings z (sentIn (story z (exchanges board cs))) in
     (i j : ℕ) → i < j → j < length rs → Apart (getD rs i (plain 0)) (getD rs j (plain 0))
-no-two-same board meets cs o i j h k = rising-apart (readings (sentIn (story (exchanges board cs)))) (meets cs o) i j h k
+no-two-same z board meets cs o i j h k = rising-apart (readings z (sentIn (story z (exchanges board cs)))) (meets cs o) i j h k
 
 -- ---- calls after calls
 
@@ -102,26 +103,26 @@ later board [] cs = []
 later board (d ∷ ds) cs = record { call = d; reply = board (ds ++ cs) d } ∷ later board ds cs
 
 -- the events that exchanges tell after the events h
-abbrev pub since : List Exchange → List Event → List Event
-since [] h = []
-since (x ∷ xs) h = eventsOf (since xs h ++ h) (x .call) (x .reply) ++ since xs h
+abbrev pub since : Settings → List Exchange → List Event → List Event
+since z [] h = []
+since z (x ∷ xs) h = eventsOf z (since z xs h ++ h) (x .call) (x .reply) ++ since z xs h
 
 append-three : (xs ys zs : List Event) → (xs ++ ys) ++ zs ≡ xs ++ (ys ++ zs)
 append-three [] ys zs = refl
 append-three (x ∷ xs) ys zs = ap (λ (l : List Event). x ∷ l) (append-three xs ys zs)
 
-story-since : (board : Replies) (ds cs : List Call)
-    → story (exchanges board (ds ++ cs)) ≡ since (later board ds cs) (story (exchanges board cs)) ++ story (exchanges board cs)
-story-since board [] cs = refl
-story-since board (d ∷ ds) cs =
-    ap (λ (h : List Event). eventsOf h d (board (ds ++ cs) d) ++ h) (story-since board ds cs)
-    ∙ sym (append-three (eventsOf (es ++ h) d (board (ds ++ cs) d)) es h)
+story-since : (z : Settings) (board : Replies) (ds cs : List Call)
+    → story z (exchanges board (ds ++ cs)) ≡ since z (later board ds cs) (story z (exchanges board cs)) ++ story z (exchanges board cs)
+story-since z board [] cs = refl
+story-since z board (d ∷ ds) cs =
+    ap (λ (h : List Event). eventsOf z h d (board (ds ++ cs) d) ++ h) (story-since z board ds cs)
+    ∙ sym (append-three (eventsOf z (es ++ h) d (board (ds ++ cs) d)) es h)
   where
     h : List Event
-    h = story (exchanges board cs)
+    h = story z (exchanges board cs)
 
     es : List Event
-    es = since (later board ds cs) (story (exchanges board cs))
+    es = since z (later board ds cs) (story z (exchanges board cs))
 
 -- ---- frames that are not above all that were opened
 
@@ -133,7 +134,7 @@ untouched x a (forgot y b ∷ h) = both (not (both (same y x) (eqb b a))) (untou
 untouched x a (heard y r ∷ h) = untouched x a h
 untouched x a (sent s ∷ h) = untouched x a h
 
-above-without : (a b c : ℕ) (l : List Heard) → (b ≡ a → ⊥) → aboveAll a c (without b l) ≡ aboveAll a c l
+above-without : (a b c : ℕ) (l : List HeardFrame) → (b ≡ a → ⊥) → aboveAll a c (without b l) ≡ aboveAll a c l
 above-without a b c [] ne = refl
 above-without a b c (r ∷ l) ne = go (above-without a b c l ne) (eqb (r .sender) b) refl
   where
@@ -149,10 +150,10 @@ stale-stays : (x : Holder) (a c : ℕ) (es h : List Event) → untouched x a es 
     → aboveAll a c (heardIn (es ++ h) x) ≡ false
 stale-stays x a c [] h u e = e
 stale-stays x a c (keyed y k ∷ es) h u e =
-    let t = both-true (not (same y x)) (untouched x a es) u in
+    let t = both-parts (not (same y x)) (untouched x a es) u in
     rw (not-back (same y x) true (t .0)) (stale-stays x a c es h (t .1) e)
 stale-stays x a c (forgot y b ∷ es) h u e =
-    let t = both-true (not (both (same y x) (eqb b a))) (untouched x a es) u in
+    let t = both-parts (not (both (same y x) (eqb b a))) (untouched x a es) u in
     go (same y x) (not-back (both (same y x) (eqb b a)) true (t .0)) (stale-stays x a c es h (t .1) e)
   where
     go : (t : Bool) → both t (eqb b a) ≡ false → aboveAll a c (heardIn (es ++ h) x) ≡ false
@@ -170,28 +171,28 @@ stale-stays x a c (sent s ∷ es) h u e = stale-stays x a c es h u e
 same-self : (h : List Event) (x : Holder) (n : ℕ) (k : List ℕ) → keyIn h x ≡ key n k → same x x ≡ true
 same-self h (slot i) n k e = eq-eqb i i refl
 same-self h (link a) n k e = eq-eqb a a refl
-same-self h nowhere n k e = let z : none ≡ key n k = sym (key-nowhere h) ∙ e in cc
+same-self h nowhere n k e = let zz : none ≡ key n k = sym (key-nowhere h) ∙ e in cc
 
 -- ---- what the checks tell
 
-module _ (m : ℕ) (h : List Event) (l : Layer) (f : List ℕ) (g : ℕ) (o : List ℕ) (s : Secured) (read : readAt l f g ≡ secured s) where
+module _ (z : Settings) (h : List Event) (l : Layer) (f : List ℕ) (g : ℕ) (o : List ℕ) (s : Secured) (read : reading z l f g ≡ secured s) where
   abbrev x : Holder
   x = holderFor h l s
 
-  passes-not : passesRead m h l f (secured s) ≡ false → passes m h l f g o ≡ false
+  passes-not : passesRead z h l f (secured s) ≡ false → passes z h l f g o ≡ false
   unfolding passes
   passes-not q =
-      ap (λ (t : Bool). both (leb longest (length o)) (both (leb (length f) (longestAt l)) t)) (ap (passesRead m h l f) read ∙ q)
+      ap (λ (t : Bool). both (leb longest (length o)) (both (leb (length f) (longestAt l)) t)) (ap (passesRead z h l f) read ∙ q)
       ∙ ap (both (leb longest (length o))) (both-false (leb (length f) (longestAt l))) ∙ both-false (leb longest (length o))
 
-  stale-not : aboveAll (s .sender) (s .counter) (heardIn h x) ≡ false → passes m h l f g o ≡ false
+  stale-not : aboveAll (s .sender) (s .counter) (heardIn h x) ≡ false → passes z h l f g o ≡ false
   unfolding passesRead passesUnder
   stale-not q = passes-not (go (keyIn h x))
     where
-      go : (y : Key) → passesUnder m h l f s x y ≡ false
+      go : (y : Installation) → passesUnder z h l f s x y ≡ false
       go none = refl
       go (key n k) =
-          ap (λ (t : Bool). both (ltb (s .counter) top) (both t (both (genuine (keyAt l s k) f s) (room m h x (s .sender))))) q
+          ap (λ (t : Bool). both (ltb (s .counter) top) (both t (both (genuine z (keyAt l s k) f s) (room z h x (s .sender))))) q
           ∙ both-false (ltb (s .counter) top)
 
   -- a frame that passes has its key
@@ -200,52 +201,52 @@ module _ (m : ℕ) (h : List Event) (l : Layer) (f : List ℕ) (g : ℕ) (o : Li
     pub octets : List ℕ
     pub found : keyIn h x ≡ key number octets
 
-  has-key : passes m h l f g o ≡ true → Found
+  has-key : passes z h l f g o ≡ true → Found
   unfolding passes passesRead passesUnder
   has-key e =
-      let t = both-true (leb longest (length o)) (both (leb (length f) (longestAt l)) (passesRead m h l f (readAt l f g))) e .1 in
-      let u = both-true (leb (length f) (longestAt l)) (passesRead m h l f (readAt l f g)) t .1 in
-      keyed-so (keyIn h x) refl (ap (passesRead m h l f) (sym read) ∙ u)
+      let t = both-parts (leb longest (length o)) (both (leb (length f) (longestAt l)) (passesRead z h l f (reading z l f g))) e .1 in
+      let u = both-parts (leb (length f) (longestAt l)) (passesRead z h l f (reading z l f g)) t .1 in
+      keyed-so (keyIn h x) refl (ap (passesRead z h l f) (sym read) ∙ u)
     where
-      keyed-so : (y : Key) → keyIn h x ≡ y → passesUnder m h l f s x y ≡ true → Found
+      keyed-so : (y : Installation) → keyIn h x ≡ y → passesUnder z h l f s x y ≡ true → Found
       keyed-so none d u = clash u refl
       keyed-so (key n k) d u = record { number = n; octets = k; found = d }
 
 -- ---- of any board that meets the second statement
 
-module _ (m : ℕ) (board : Replies) (meets : Second m board) where
+module _ (z : Settings) (board : Replies) (meets : Second z board) where
   -- a secured frame
-  opened-so : (cs : List Call) (l : Layer) (f : List ℕ) (g : ℕ) (o : List ℕ) (s : Secured) → Octets f → readAt l f g ≡ secured s
-      → not (refuses (board cs (opening l f g o))) ≡ passes m (story (exchanges board cs)) l f g o
+  opened-so : (cs : List Call) (l : Layer) (f : List ℕ) (g : ℕ) (o : List ℕ) (s : Secured) → Octets f → reading z l f g ≡ secured s
+      → not (refuses (board cs (opening l f g o))) ≡ passes z (story z (exchanges board cs)) l f g o
   opened-so cs l f g o s octets e =
-      subst (λ (r : Reading). Rightly r (board cs (opening l f g o)) (passes m (story (exchanges board cs)) l f g o)) e (meets cs l f g o octets)
+      subst (λ (r : Reading). Rightly r (board cs (opening l f g o)) (passes z (story z (exchanges board cs)) l f g o)) e (meets cs l f g o octets)
 
   -- a frame that is not above all counters opened is refused, whatever else might be told of it: also as unsecured
-  pub stale-refused : (cs : List Call) (l : Layer) (f : List ℕ) (g : ℕ) (o : List ℕ) (s : Secured) → Octets f → readAt l f g ≡ secured s
-      → let h = story (exchanges board cs) in
+  pub stale-refused : (cs : List Call) (l : Layer) (f : List ℕ) (g : ℕ) (o : List ℕ) (s : Secured) → Octets f → reading z l f g ≡ secured s
+      → let h = story z (exchanges board cs) in
       aboveAll (s .sender) (s .counter) (heardIn h (holderFor h l s)) ≡ false → refuses (board cs (opening l f g o)) ≡ true
   stale-refused cs l f g o s octets e q =
       not-back (refuses (board cs (opening l f g o))) false
-      (opened-so cs l f g o s octets e ∙ stale-not m (story (exchanges board cs)) l f g o s e q)
+      (opened-so cs l f g o s octets e ∙ stale-not z (story z (exchanges board cs)) l f g o s e q)
 
-  module _ (cs : List Call) (l : Layer) (f : List ℕ) (g : ℕ) (o : List ℕ) (s : Secured) (octets : Octets f) (read : readAt l f g ≡ secured s)
+  module _ (cs : List Call) (l : Layer) (f : List ℕ) (g : ℕ) (o : List ℕ) (s : Secured) (octets : Octets f) (read : reading z l f g ≡ secured s)
       (open-first : refuses (board cs (opening l f g o)) ≡ false) where
     abbrev once : Call
     once = opening l f g o
 
     abbrev home : Holder
-    home = holderFor (story (exchanges board cs)) l s
+    home = holderFor (story z (exchanges board cs)) l s
 
-    key-there : Found m (story (exchanges board cs)) l f g o s read
-    key-there = has-key m (story (exchanges board cs)) l f g o s read (sym (opened-so cs l f g o s octets read) ∙ ap not open-first)
+    key-there : Found z (story z (exchanges board cs)) l f g o s read
+    key-there = has-key z (story z (exchanges board cs)) l f g o s read (sym (opened-so cs l f g o s octets read) ∙ ap not open-first)
 
     -- as soon as it was opened
-    not-above : aboveAll (s .sender) (s .counter) (heardIn (story (exchanges board (once ∷ cs))) home) ≡ false
+    not-above : aboveAll (s .sender) (s .counter) (heardIn (story z (exchanges board (once ∷ cs))) home) ≡ false
     not-above =
         rw (
           open-first,
           read,
-          same-self (story (exchanges board cs)) home (key-there .number) (key-there .octets) (key-there .found),
+          same-self (story z (exchanges board cs)) home (key-there .number) (key-there .octets) (key-there .found),
           eq-eqb (s .sender) (s .sender) refl,
           le-ltb (s .counter) (s .counter) (omega arith),
         ) refl
@@ -253,25 +254,25 @@ module _ (m : ℕ) (board : Replies) (meets : Second m board) where
     -- A frame that was opened is refused when it comes again, with any sender under which it is read the same, after any calls by
     -- which its key's place has no other key, its sender is not forgotten there, and the frame's key still stands there.
     pub replay-refused : (ds : List Call)
-        → untouched home (s .sender) (since (later board ds (once ∷ cs)) (story (exchanges board (once ∷ cs)))) ≡ true
-        → holderFor (story (exchanges board (ds ++ (once ∷ cs)))) l s ≡ home
-        → (k : ℕ) (p : List ℕ) → readAt l f k ≡ secured s → refuses (board (ds ++ (once ∷ cs)) (opening l f k p)) ≡ true
+        → untouched home (s .sender) (since z (later board ds (once ∷ cs)) (story z (exchanges board (once ∷ cs)))) ≡ true
+        → holderFor (story z (exchanges board (ds ++ (once ∷ cs)))) l s ≡ home
+        → (k : ℕ) (p : List ℕ) → reading z l f k ≡ secured s → refuses (board (ds ++ (once ∷ cs)) (opening l f k p)) ≡ true
     replay-refused ds u same-place k p again =
         stale-refused (ds ++ (once ∷ cs)) l f k p s octets again
-        (ap (λ (y : Holder). aboveAll (s .sender) (s .counter) (heardIn (story (exchanges board (ds ++ (once ∷ cs)))) y)) same-place
-        ∙ ap (λ (h : List Event). aboveAll (s .sender) (s .counter) (heardIn h home)) (story-since board ds (once ∷ cs))
-        ∙ stale-stays home (s .sender) (s .counter) (since (later board ds (once ∷ cs)) (story (exchanges board (once ∷ cs))))
-        (story (exchanges board (once ∷ cs))) u not-above)
+        (ap (λ (y : Holder). aboveAll (s .sender) (s .counter) (heardIn (story z (exchanges board (ds ++ (once ∷ cs)))) y)) same-place
+        ∙ ap (λ (h : List Event). aboveAll (s .sender) (s .counter) (heardIn h home)) (story-since z board ds (once ∷ cs))
+        ∙ stale-stays home (s .sender) (s .counter) (since z (later board ds (once ∷ cs)) (story z (exchanges board (once ∷ cs))))
+        (story z (exchanges board (once ∷ cs))) u not-above)
 
   -- ---- a frame that is refused
 
   -- the frame is not unsecured
-  opened-is : (cs : List Call) (l : Layer) (f : List ℕ) (g : ℕ) (o : List ℕ) → Octets f → ((n : ℕ) → readAt l f g ≡ plain n → ⊥)
-      → not (refuses (board cs (opening l f g o))) ≡ passes m (story (exchanges board cs)) l f g o
-  opened-is cs l f g o octets ne = go (readAt l f g) refl (meets cs l f g o octets)
+  opened-is : (cs : List Call) (l : Layer) (f : List ℕ) (g : ℕ) (o : List ℕ) → Octets f → ((n : ℕ) → reading z l f g ≡ plain n → ⊥)
+      → not (refuses (board cs (opening l f g o))) ≡ passes z (story z (exchanges board cs)) l f g o
+  opened-is cs l f g o octets ne = go (reading z l f g) refl (meets cs l f g o octets)
     where
-      go : (r : Reading) → readAt l f g ≡ r → Rightly r (board cs (opening l f g o)) (passes m (story (exchanges board cs)) l f g o)
-          → not (refuses (board cs (opening l f g o))) ≡ passes m (story (exchanges board cs)) l f g o
+      go : (r : Reading) → reading z l f g ≡ r → Rightly r (board cs (opening l f g o)) (passes z (story z (exchanges board cs)) l f g o)
+          → not (refuses (board cs (opening l f g o))) ≡ passes z (story z (exchanges board cs)) l f g o
       go (secured s) e t = t
       go (refused n) e t = t
       go (plain n) e t = absurd (ne n e)
@@ -280,43 +281,43 @@ module _ (m : ℕ) (board : Replies) (meets : Second m board) where
   -- the next frame that is not unsecured is opened just if it would have been
   pub refused-leaves : (cs : List Call) (l : Layer) (f : List ℕ) (g : ℕ) (o : List ℕ) → refuses (board cs (opening l f g o)) ≡ true
       → (ds : List Call) → later board ds (opening l f g o ∷ cs) ≡ later board ds cs
-      → (k : Layer) (e : List ℕ) (a : ℕ) (p : List ℕ) → Octets e → ((n : ℕ) → readAt k e a ≡ plain n → ⊥)
+      → (k : Layer) (e : List ℕ) (a : ℕ) (p : List ℕ) → Octets e → ((n : ℕ) → reading z k e a ≡ plain n → ⊥)
       → refuses (board (ds ++ (opening l f g o ∷ cs)) (opening k e a p)) ≡ refuses (board (ds ++ cs) (opening k e a p))
   refused-leaves cs l f g o turned ds alike k e a p octets ne =
       not-back _ _ (opened-is (ds ++ (opening l f g o ∷ cs)) k e a p octets ne
-      ∙ ap (λ (h : List Event). passes m h k e a p) stories ∙ sym (opened-is (ds ++ cs) k e a p octets ne))
+      ∙ ap (λ (h : List Event). passes z h k e a p) stories ∙ sym (opened-is (ds ++ cs) k e a p octets ne))
       ∙ not-twice (refuses (board (ds ++ cs) (opening k e a p)))
     where
       not-twice : (t : Bool) → not (not t) ≡ t
       not-twice true = refl
       not-twice false = refl
 
-      told-nothing : story (exchanges board (opening l f g o ∷ cs)) ≡ story (exchanges board cs)
+      told-nothing : story z (exchanges board (opening l f g o ∷ cs)) ≡ story z (exchanges board cs)
       told-nothing = rw turned refl
 
-      stories : story (exchanges board (ds ++ (opening l f g o ∷ cs))) ≡ story (exchanges board (ds ++ cs))
+      stories : story z (exchanges board (ds ++ (opening l f g o ∷ cs))) ≡ story z (exchanges board (ds ++ cs))
       stories =
-          story-since board ds (opening l f g o ∷ cs)
-          ∙ ap (λ (h : List Event). since (later board ds (opening l f g o ∷ cs)) h ++ h) told-nothing
-          ∙ ap (λ (xs : List Exchange). since xs (story (exchanges board cs)) ++ story (exchanges board cs)) alike
-          ∙ sym (story-since board ds cs)
+          story-since z board ds (opening l f g o ∷ cs)
+          ∙ ap (λ (h : List Event). since z (later board ds (opening l f g o ∷ cs)) h ++ h) told-nothing
+          ∙ ap (λ (xs : List Exchange). since z xs (story z (exchanges board cs)) ++ story z (exchanges board cs)) alike
+          ∙ sym (story-since z board ds cs)
 
   -- ---- wrong boards
 
   -- one that opens a secured frame and gives the same reply to it again, as a board does that never raises a floor
-  pub never-repeats : (cs : List Call) (l : Layer) (f : List ℕ) (g : ℕ) (o : List ℕ) (s : Secured) → Octets f → readAt l f g ≡ secured s
+  pub never-repeats : (cs : List Call) (l : Layer) (f : List ℕ) (g : ℕ) (o : List ℕ) (s : Secured) → Octets f → reading z l f g ≡ secured s
       → refuses (board cs (opening l f g o)) ≡ false → board (opening l f g o ∷ cs) (opening l f g o) ≡ board cs (opening l f g o) → ⊥
   unfolding slotFor
   never-repeats cs l f g o s octets read first again =
       clash (stale-refused (opening l f g o ∷ cs) l f g o s octets read
-      (ap (λ (y : Holder). aboveAll (s .sender) (s .counter) (heardIn (story (exchanges board (opening l f g o ∷ cs))) y)) place
+      (ap (λ (y : Holder). aboveAll (s .sender) (s .counter) (heardIn (story z (exchanges board (opening l f g o ∷ cs))) y)) place
       ∙ not-above cs l f g o s octets read first)) (ap refuses again ∙ first)
     where
-      place : holderFor (story (exchanges board (opening l f g o ∷ cs))) l s ≡ holderFor (story (exchanges board cs)) l s
+      place : holderFor (story z (exchanges board (opening l f g o ∷ cs))) l s ≡ holderFor (story z (exchanges board cs)) l s
       place = go l first read
         where
-          go : (l : Layer) → refuses (board cs (opening l f g o)) ≡ false → readAt l f g ≡ secured s
-              → holderFor (story (exchanges board (opening l f g o ∷ cs))) l s ≡ holderFor (story (exchanges board cs)) l s
+          go : (l : Layer) → refuses (board cs (opening l f g o)) ≡ false → reading z l f g ≡ secured s
+              → holderFor (story z (exchanges board (opening l f g o ∷ cs))) l s ≡ holderFor (story z (exchanges board cs)) l s
           go Network q r = rw (q, r) refl
           go Aps q r = refl
 
@@ -324,19 +325,19 @@ module _ (m : ℕ) (board : Replies) (meets : Second m board) where
   -- has room
   pub sealed-opens : (cs : List Call) (l : Layer) (k : List ℕ) (q c n a : ℕ) (f : List ℕ) (i g : ℕ) (o j : List ℕ) (y : ℕ) → ToSeal l f i c n a
       → Octets k → q < 256 → longest ≤ length o → length f + sentOctets c + 4 ≤ longestAt l
-      → let h = story (exchanges board cs) in
+      → let h = story z (exchanges board cs) in
       keyIn h (holderFor h l (announcing i c n a q)) ≡ key y j → keyAt l (announcing i c n a q) j ≡ k → n < top
-      → aboveAll a n (heardIn h (holderFor h l (announcing i c n a q))) ≡ true → room m h (holderFor h l (announcing i c n a q)) a ≡ true
+      → aboveAll a n (heardIn h (holderFor h l (announcing i c n a q))) ≡ true → room z h (holderFor h l (announcing i c n a q)) a ≡ true
       → refuses (board cs (opening l (sealedFrame k l c n a q f i) g o)) ≡ false
   unfolding passes passesRead passesUnder genuine
   sealed-opens cs l k q c n a f i g o j y p ok oq ro so ek sk nt ab rm =
       not-back (refuses (board cs (opening l (sealedFrame k l c n a q f i) g o))) true
       (opened-so cs l (sealedFrame k l c n a q f i) g o (announcing i c n a q) (octets-again k q p ok oq) read ∙ pass)
     where
-      read : readAt l (sealedFrame k l c n a q f i) g ≡ secured (announcing i c n a q)
+      read : reading z l (sealedFrame k l c n a q f i) g ≡ secured (announcing i c n a q)
       read = read-same l (sealedFrame k l c n a q f i) g ∙ read-again k q p g
 
-      pass : passes m (story (exchanges board cs)) l (sealedFrame k l c n a q f i) g o ≡ true
+      pass : passes z (story z (exchanges board cs)) l (sealedFrame k l c n a q f i) g o ≡ true
       pass =
           simp (
             le-leb longest (length o) ro,
@@ -351,32 +352,32 @@ module _ (m : ℕ) (board : Replies) (meets : Second m board) where
           )
 
   -- so a board that took a network key and then refuses a first frame sealed under it does not meet the statement
-  pub installed-opens : (k : List ℕ) (q n a : ℕ) (f : List ℕ) (i g : ℕ) (o : List ℕ) → 0 < m → refuses (board [] (install 0 q k)) ≡ false
+  pub installed-opens : (k : List ℕ) (q n a : ℕ) (f : List ℕ) (i g : ℕ) (o : List ℕ) → 0 < z → refuses (board [] (install 0 q k)) ≡ false
       → ToSeal Network f i 1 n a → Octets k → q < 256 → longest ≤ length o → length f + sentOctets 1 + 4 ≤ longest → n < top
       → refuses (board (install 0 q k ∷ []) (opening Network (sealedFrame k Network 1 n a q f i) g o)) ≡ false
   unfolding slotFor firstAt
   installed-opens k q n a f i g o mp took p ok oq ro so nt =
       sealed-opens (install 0 q k ∷ []) Network k q 1 n a f i g o k q p ok oq ro so
-      (rw (took, eq-eqb q q refl) refl) refl nt (rw (took, eq-eqb q q refl) refl) (rw (took, eq-eqb q q refl) (lt-ltb 0 m mp))
+      (rw (took, eq-eqb q q refl) refl) refl nt (rw (took, eq-eqb q q refl) refl) (rw (took, eq-eqb q q refl) (lt-ltb 0 z mp))
 
 -- ---- of ours: a refused frame might as well not have come
 
-module _ (m : ℕ) (x : Held) (f : List ℕ) (g : ℕ) (o : List ℕ) where
-  refused-stays : (l : Layer) → refuses (step m (opening l f g o) x .reply) ≡ true → step m (opening l f g o) x .after ≡ x
+module _ (z : Settings) (x : Held) (f : List ℕ) (g : ℕ) (o : List ℕ) where
+  refused-stays : (l : Layer) → refuses (step z (opening l f g o) x .reply) ≡ true → step z (opening l f g o) x .after ≡ x
   refused-stays Network =
-      network-ways m (x .board) f (x .addrs) (x .floors) o
+      network-ways z (x .board) f (x .lists .addrs) (x .lists .floors) o
       (λ (r : network.Opening). refuses (byNetwork x r .reply) ≡ true → byNetwork x r .after ≡ x) (λ k e. refl) (λ k p q e. refl)
       (λ s i r k p t e. clash e refl)
   refused-stays Aps =
-      aps-ways (x .board) f g o (λ (r : aps.Opening). refuses (byAps x r .reply) ≡ true → byAps x r .after ≡ x) (λ k e. refl) (λ k p q e. refl)
+      aps-ways (x .board) f g o (λ (r : Framed). refuses (byFrame x r .reply) ≡ true → byFrame x r .after ≡ x) (λ k e. refl) (λ k p q e. refl)
       (λ s i k p t e. clash e refl)
 
-module _ (m own : ℕ) (cs : List Call) (l : Layer) (f : List ℕ) (g : ℕ) (o : List ℕ)
-    (turned : refuses (replies m own cs (opening l f g o)) ≡ true) where
-  leaves-all : (ds : List Call) → run m own (ds ++ (opening l f g o ∷ cs)) ≡ run m own (ds ++ cs)
-  leaves-all [] = refused-stays m (run m own cs) f g o l turned
-  leaves-all (d ∷ ds) = ap (λ (x : Held). step m d x .after) (leaves-all ds)
+module _ (z : Settings) (own : ℕ) (cs : List Call) (l : Layer) (f : List ℕ) (g : ℕ) (o : List ℕ)
+    (turned : refuses (replies z own cs (opening l f g o)) ≡ true) where
+  leaves-all : (ds : List Call) → run z own (ds ++ (opening l f g o ∷ cs)) ≡ run z own (ds ++ cs)
+  leaves-all [] = refused-stays z (run z own cs) f g o l turned
+  leaves-all (d ∷ ds) = ap (λ (x : Held). step z d x .after) (leaves-all ds)
 
   -- forged (9), or refused for any other cause
-  pub forged-changes-nothing : (ds : List Call) (d : Call) → replies m own (ds ++ (opening l f g o ∷ cs)) d ≡ replies m own (ds ++ cs) d
-  forged-changes-nothing ds d = ap (λ (x : Held). step m d x .reply) (leaves-all ds)
+  pub forged-changes-nothing : (ds : List Call) (d : Call) → replies z own (ds ++ (opening l f g o ∷ cs)) d ≡ replies z own (ds ++ cs) d
+  forged-changes-nothing ds d = ap (λ (x : Held). step z d x .reply) (leaves-all ds)

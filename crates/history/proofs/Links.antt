@@ -11,9 +11,10 @@ use lib.Dec.{eqb}
 use lib.ListN.{length, set, length-set}
 use lib.Seq.{getD-set-same, getD-set-other}
 use borrow.Author.Tests.{eqb-true, eq-eqb, not-true}
+use Rattle.octets.specs.Keys.{Key, theKey}
 use Rattle.octets.specs.Choice.{if_then_else_, both}
 use Rattle.octets.proofs.Tabs.{getD-tab}
-use Rattle.history.specs.Events.{Key, none, key}
+use Rattle.history.specs.Events.{Installation, none, key}
 use Rattle.history.proofs.Searches.{same-or, clash, first-ext, first-only, first-nowhere}
 use Rattle.history.proofs.Counters.{bound}
 use Rattle.history.proofs.Senders.{pick-same, pick-else}
@@ -24,14 +25,14 @@ use Rattle.board.specs.State.{linkAt, pairs, noLink, fresh}
 use Rattle.board.specs.Requests.{linkOf, freeLink}
 use Rattle.board.proofs.Found.{first-found, first-none}
 
-abbrev pub Tells : List Link → Place → Key → List ℕ → Type 0
-Tells ls (At i) k l = (k ≡ key 0 (linkAt ls i .key)) × (linkAt ls i .floor ≡ bound l)
+abbrev pub Tells : List Link → Place → Installation → List ℕ → Type 0
+Tells ls (At i) k l = (k ≡ key 0 (theKey (linkAt ls i .key))) × (linkAt ls i .floor ≡ bound l)
 Tells ls Absent k l = k ≡ none
 
 abbrev pub pairsAt : List Link → ℕ → ℕ → Bool
 pairsAt ls a i = pairs (linkAt ls i) a
 
-pub record Links (ls : List Link) (keys : ℕ → Key) (opened : ℕ → List ℕ) : Type 0 where
+pub record Links (ls : List Link) (keys : ℕ → Installation) (opened : ℕ → List ℕ) : Type 0 where
   pub eight : length ls ≡ 8
   pub once : (a i j : ℕ) → i < 8 → j < 8 → pairsAt ls a i ≡ true → pairsAt ls a j ≡ true → i ≡ j
   pub tells : (a : ℕ) → Tells ls (linkOf ls a) (keys a) (opened a)
@@ -65,7 +66,7 @@ pair-other l a b e ne = go (pairs l b) refl
     go false f = f
 
 -- what is told of a partner may be said in other words
-pub links-ext : {ls : List Link} {keys keys' : ℕ → Key} {opened opened' : ℕ → List ℕ} → Links ls keys opened
+pub links-ext : {ls : List Link} {keys keys' : ℕ → Installation} {opened opened' : ℕ → List ℕ} → Links ls keys opened
     → ((a : ℕ) → keys a ≡ keys' a) → ((a : ℕ) → opened a ≡ opened' a) → Links ls keys' opened'
 links-ext {ls} {keys} {keys'} {opened} {opened'} w p q =
     record { eight = w .eight; once = w .once; tells = λ a. rw (← p a, ← q a) (w .tells a) }
@@ -84,7 +85,7 @@ links-fresh own =
 
 -- ---- one entry changes: it was free or the partner's, and is so again
 
-module _ {ls : List Link} {keys : ℕ → Key} {opened : ℕ → List ℕ} (w : Links ls keys opened) (i a : ℕ) (l : Link) (i< : i < 8)
+module _ {ls : List Link} {keys : ℕ → Installation} {opened : ℕ → List ℕ} (w : Links ls keys opened) (i a : ℕ) (l : Link) (i< : i < 8)
     (was : (b : ℕ) → (b ≡ a → ⊥) → pairsAt ls b i ≡ false) (now : (b : ℕ) → (b ≡ a → ⊥) → pairs l b ≡ false)
     (others : (j : ℕ) → j < 8 → (j ≡ i → ⊥) → pairsAt ls a j ≡ false) where
   abbrev ks : List Link
@@ -127,7 +128,7 @@ module _ {ls : List Link} {keys : ℕ → Key} {opened : ℕ → List ℕ} (w : 
       go (At q) e t = rw (kept q (away q e)) t
       go Absent e t = t
 
-  pub entry-changes : (keys' : ℕ → Key) (opened' : ℕ → List ℕ) → ((b : ℕ) → (b ≡ a → ⊥) → keys' b ≡ keys b)
+  pub entry-changes : (keys' : ℕ → Installation) (opened' : ℕ → List ℕ) → ((b : ℕ) → (b ≡ a → ⊥) → keys' b ≡ keys b)
       → ((b : ℕ) → (b ≡ a → ⊥) → opened' b ≡ opened b) → Tells ks (linkOf ks a) (keys' a) (opened' a) → Links ks keys' opened'
   entry-changes keys' opened' ek eo t =
       record {
@@ -137,7 +138,7 @@ module _ {ls : List Link} {keys : ℕ → Key} {opened : ℕ → List ℕ} (w : 
       }
 
   -- an entry for a
-  pub entry-put : (k : List ℕ) (o : List ℕ) → pairs l a ≡ true → l .key ≡ k → l .floor ≡ bound o
+  pub entry-put : (k : Key) (o : List ℕ) → pairs l a ≡ true → theKey (l .key) ≡ k → l .floor ≡ bound o
       → Links ks (λ b. if eqb a b then key 0 k else keys b) (λ b. if eqb a b then o else opened b)
   unfolding linkOf
   entry-put k o mine ek ef =
@@ -165,7 +166,7 @@ module _ {ls : List Link} {keys : ℕ → Key} {opened : ℕ → List ℕ} (w : 
 
 -- ---- the entry that a search found
 
-module _ {ls : List Link} {keys : ℕ → Key} {opened : ℕ → List ℕ} (w : Links ls keys opened) (a i : ℕ) where
+module _ {ls : List Link} {keys : ℕ → Installation} {opened : ℕ → List ℕ} (w : Links ls keys opened) (a i : ℕ) where
   pub record Mine : Type 0 where
     pub low : i < 8
     pub pairing : pairsAt ls a i ≡ true

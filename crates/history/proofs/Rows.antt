@@ -170,7 +170,7 @@ module _ (m : ℕ) {al fl : List ℕ} {opened : ℕ → ℕ → List ℕ} {sende
 
           apart : (q ≡ r → ⊥) → ⊥
           apart u =
-              hit q (omega (arith, p, ins), omega (arith, p, ins)) inq u (sym (kept q u) ∙ sym e ∙ at-s) (λ z. nz (at-s ∙ z))
+              hit q (omega (arith, p, ins), omega (arith, p, ins)) inq u (sym (kept q u) ∙ sym e ∙ at-s) (λ zz. nz (at-s ∙ zz))
 
       second : (s ≡ r → ⊥) → s ≡ q
       second p = ⊎-elim (λ (u : q ≡ r). absurd (apart u)) (λ (u : q ≡ r → ⊥). neither u) (same-or q r)
@@ -178,10 +178,10 @@ module _ (m : ℕ) {al fl : List ℕ} {opened : ℕ → ℕ → List ℕ} {sende
           apart : q ≡ r → ⊥
           apart u =
               let at-q : getD bl q 0 ≡ v = rw u now-is in
-              hit s (omega (arith, u, inq), omega (arith, u, inq)) ins p (sym (kept s p) ∙ e ∙ at-q) (λ z. nz (e ∙ at-q ∙ z))
+              hit s (omega (arith, u, inq), omega (arith, u, inq)) ins p (sym (kept s p) ∙ e ∙ at-q) (λ zz. nz (e ∙ at-q ∙ zz))
 
           neither : (q ≡ r → ⊥) → s ≡ q
-          neither u = w .once j j< s q ins inq (sym (kept s p) ∙ e ∙ kept q u) (λ z. nz (kept s p ∙ z))
+          neither u = w .once j j< s q ins inq (sym (kept s p) ∙ e ∙ kept q u) (λ zz. nz (kept s p ∙ zz))
 
   use-kept : (j : ℕ) → j < 2 → (j ≡ i → ⊥) → count (inUse bl) (j * m) m ≡ count (inUse al) (j * m) m
   use-kept j j< ne =

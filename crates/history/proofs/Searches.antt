@@ -14,7 +14,7 @@ use Rattle.board.specs.Places.{firstAt}
 use Rattle.board.proofs.Found.{first-found, first-none}
 
 pub clash : {A : Type 0} {t : Bool} → t ≡ true → t ≡ false → A
-clash e f = let z : _≡_ {A = ℕ} 0 1 = cc in absurd (omega arith)
+clash e f = let never : _≡_ {A = ℕ} 0 1 = cc in absurd (omega arith)
 
 pub same-or : (a b : ℕ) → (a ≡ b) ⊎ (a ≡ b → ⊥)
 same-or a b = go (eqb a b) refl

@@ -10,6 +10,7 @@ use lib.Dec.{eqb, ltb}
 use lib.ListN.{length, getD, set}
 use lib.Seq.{getD-set-same, getD-set-other}
 use borrow.Author.Tests.{eqb-true, eqb-false, eq-eqb, ne-eqb, lt-ltb, le-ltb}
+use Rattle.settings.specs.Settings.{Settings}
 use Rattle.octets.specs.Choice.{if_then_else_, both}
 use Rattle.history.proofs.Searches.{same-or, first-ext, first-only, first-nowhere, bit, count-ext, count-none, count-all, count-less}
 use Rattle.history.proofs.Counters.{bound, bound-more, member, less, Distinct, no-one, one-more, member-less, member-other, distinct-less, length-less}
@@ -17,7 +18,7 @@ use Rattle.history.proofs.Freed.{freed-in, freed-out}
 use Rattle.history.proofs.Rows.{In, slot-apart, slot-within, rowIs, inUse, placeOf, there, Rows, Mine, row-changes}
 use Rattle.board.specs.declared.Place.{Place}
 use Rattle.board.specs.declared.Place.the-variants.{At, Absent}
-use Rattle.board.specs.Rows.{findRow, freed}
+use Rattle.board.specs.Rows.{lists, findRow, freed}
 use Rattle.board.proofs.Found.{first-found, first-none, rows-there}
 use Rattle.board.proofs.Cleared.{freed-length}
 use Rattle.network.specs.Opening.{floorAt, orFree, rowFor}
@@ -41,7 +42,11 @@ both-else i j a b x y el = go (eqb i j) refl (eqb a b) refl
     go true e false f = refl
     go false e u f = refl
 
-module _ (m : ℕ) {al fl : List ℕ} {opened : ℕ → ℕ → List ℕ} {senders : ℕ → List ℕ} (w : Rows m al fl opened senders) (i : ℕ) (i< : i < 2) where
+module _ (z : Settings) {al fl : List ℕ} {opened : ℕ → ℕ → List ℕ} {senders : ℕ → List ℕ} (w : Rows (z .rows) al fl opened senders)
+    (i : ℕ) (i< : i < 2) where
+  abbrev m : ℕ
+  m = z .rows
+
   pub row-there : (a : ℕ) → findRow al (i * m) m a ≡ placeOf m al i a
   row-there a = rows-there al (i * m) m a (omega (arith, slot-within m i i<, w .addrs))
 
@@ -57,7 +62,7 @@ module _ (m : ℕ) {al fl : List ℕ} {opened : ℕ → ℕ → List ℕ} {sende
     own-row r e =
         let g = first-found (rowIs al a) m (i * m) r e in
         let at-r : getD al r 0 ≡ a = eqb-true _ _ (g .passes) in
-        let nz : getD al r 0 ≡ 0 → ⊥ = λ z. az (sym at-r ∙ z) in
+        let nz : getD al r 0 ≡ 0 → ⊥ = λ zz. az (sym at-r ∙ zz) in
         record {
           within = (g .low, g .high);
           was = inl at-r;
@@ -75,19 +80,19 @@ module _ (m : ℕ) {al fl : List ℕ} {opened : ℕ → ℕ → List ℕ} {sende
           uses = ap not (g .passes) ∙ ap there (sym e) ∙ w .known i a i< az;
         }
 
-    row-for : rowFor m al i a ≡ orFree m al i (placeOf m al i a)
+    row-for : rowFor z (lists al fl) i a ≡ orFree z (lists al fl) i (placeOf m al i a)
     unfolding rowFor
-    row-for = ap (orFree m al i) (row-there a)
+    row-for = ap (orFree z (lists al fl) i) (row-there a)
 
-    takes : (r : ℕ) → rowFor m al i a ≡ At r → Takes r
+    takes : (r : ℕ) → rowFor z (lists al fl) i a ≡ At r → Takes r
     takes r e = go (placeOf m al i a) refl (sym row-for ∙ e)
       where
-        go : (p : Place) → placeOf m al i a ≡ p → orFree m al i p ≡ At r → Takes r
+        go : (p : Place) → placeOf m al i a ≡ p → orFree z (lists al fl) i p ≡ At r → Takes r
         go (At q) f g = own-row r (f ∙ g)
         go Absent f g = free-row r f (sym (row-there 0) ∙ g)
 
     -- "There is room if the sender was opened .. or if fewer .. were."
-    pub room-told : there (rowFor m al i a) ≡ (if member a (senders i) then true else ltb (length (senders i)) m)
+    pub room-told : there (rowFor z (lists al fl) i a) ≡ (if member a (senders i) then true else ltb (length (senders i)) m)
     room-told = ap there row-for ∙ go (placeOf m al i a) refl ∙ ap (λ (t : Bool). if t then true else ltb (length (senders i)) m) (w .known i a i< az)
       where
         free : (p : Place) → placeOf m al i 0 ≡ p → there p ≡ ltb (length (senders i)) m
@@ -99,13 +104,13 @@ module _ (m : ℕ) {al fl : List ℕ} {opened : ℕ → ℕ → List ℕ} {sende
             sym (le-ltb (length (senders i)) m
             (omega (arith, w .used i i<, count-all (inUse al) m (i * m) (λ k c d. ap not (first-none (rowIs al 0) m (i * m) e k c d)))))
 
-        go : (p : Place) → placeOf m al i a ≡ p → there (orFree m al i p) ≡ (if there p then true else ltb (length (senders i)) m)
+        go : (p : Place) → placeOf m al i a ≡ p → there (orFree z (lists al fl) i p) ≡ (if there p then true else ltb (length (senders i)) m)
         go (At q) f = refl
         go Absent f = ap there (row-there 0) ∙ free (placeOf m al i 0) refl
 
     -- ---- heard
 
-    pub hear-rows : (r n : ℕ) → rowFor m al i a ≡ At r → bound (opened i a) ≤ n
+    pub hear-rows : (r n : ℕ) → rowFor z (lists al fl) i a ≡ At r → bound (opened i a) ≤ n
         → Rows m (set al r a) (set fl r (n + 1)) (λ j b. if both (eqb i j) (eqb a b) then n ∷ opened j b else opened j b)
         (λ j. if eqb i j then a ∷ less a (senders j) else senders j)
     hear-rows r n e h =
@@ -192,7 +197,7 @@ module _ (m : ℕ) {al fl : List ℕ} {opened : ℕ → ℕ → List ℕ} {sende
         place : placeOf m (set al r 0) i a ≡ Absent
         place =
             first-nowhere (rowIs (set al r 0) a) m (i * m)
-            (λ k c d. ⊎-elim (λ (g : k ≡ r). rw g (ap (λ (y : ℕ). eqb y a) now-is ∙ ne-eqb 0 a (λ z. az (sym z))))
+            (λ k c d. ⊎-elim (λ (g : k ≡ r). rw g (ap (λ (y : ℕ). eqb y a) now-is ∙ ne-eqb 0 a (λ zz. az (sym zz))))
             (λ (g : k ≡ r → ⊥). ne-eqb _ a (λ f. t .others k (c, d) g (sym (getD-set-other al r k 0 0 g) ∙ f))) (same-or k r))
 
         elsewhere : (j b : ℕ) → (j ≡ i → b ≡ a → ⊥) → member b (senders' j) ≡ member b (senders j)
@@ -218,7 +223,7 @@ module _ (m : ℕ) {al fl : List ℕ} {opened : ℕ → ℕ → List ℕ} {sende
         addrs = freed-length al (i * m) m in-addrs ∙ w .addrs;
         floors = freed-length fl (i * m) m in-floors ∙ w .floors;
         once = λ j j< r q inr inq e nz. by j (λ (f : j ≡ i). absurd (nz (zeros r (rw (← f) inr))))
-            (λ ne. w .once j j< r q inr inq (sym (kept j j< ne r inr) ∙ e ∙ kept j j< ne q inq) (λ z. nz (kept j j< ne r inr ∙ z)));
+            (λ ne. w .once j j< r q inr inq (sym (kept j j< ne r inr) ∙ e ∙ kept j j< ne q inq) (λ zz. nz (kept j j< ne r inr ∙ zz)));
         floor = λ j b j< bz. by j (λ (f : j ≡ i). rw f (ap (floorAt gl) (nowhere b bz) ∙ sym (ap bound (pick-same i [] (opened i b)))))
             (λ ne. ap (floorAt gl) (places j j< ne b) ∙ floors j j< ne b ∙ w .floor j b j< bz ∙ ap bound (sym (pick-else i j [] (opened j b) ne)));
         known = λ j b j< bz. by j (λ (f : j ≡ i). rw f (ap there (nowhere b bz) ∙ sym (ap (member b) (pick-same i [] (senders i)))))
@@ -257,7 +262,7 @@ module _ (m : ℕ) {al fl : List ℕ} {opened : ℕ → ℕ → List ℕ} {sende
       nowhere : (b : ℕ) → (b ≡ 0 → ⊥) → placeOf m (freed al (i * m) m) i b ≡ Absent
       nowhere b bz =
           first-nowhere (rowIs (freed al (i * m) m) b) m (i * m)
-          (λ k c d. ap (λ (y : ℕ). eqb y b) (zeros k (c, d)) ∙ ne-eqb 0 b (λ z. bz (sym z)))
+          (λ k c d. ap (λ (y : ℕ). eqb y b) (zeros k (c, d)) ∙ ne-eqb 0 b (λ zz. bz (sym zz)))
 
       places : (j : ℕ) → j < 2 → (j ≡ i → ⊥) → (b : ℕ) → placeOf m (freed al (i * m) m) j b ≡ placeOf m al j b
       places j j< ne b =

@@ -10,10 +10,11 @@ use lib.Dec.{eqb}
 use lib.ListN.{length, set, length-set}
 use lib.Seq.{getD-set-same, getD-set-other}
 use borrow.Author.Tests.{eqb-true}
+use Rattle.octets.specs.Keys.{Key, theKey}
 use Rattle.octets.specs.Choice.{if_then_else_, both}
 use Rattle.octets.specs.Lists.{eqList}
 use Rattle.octets.proofs.Tabs.{getD-tab}
-use Rattle.history.specs.Events.{Key, none, key, numbered, sameKey}
+use Rattle.history.specs.Events.{Installation, none, key, numbered, sameKey}
 use Rattle.history.proofs.Searches.{same-or, clash, first-ext}
 use Rattle.history.proofs.Senders.{pick-same, pick-else}
 use Rattle.board.specs.declared.Slot.{Slot}
@@ -23,55 +24,55 @@ use Rattle.board.specs.State.{slotAt, carries, noSlot, fresh}
 use Rattle.board.specs.Requests.{slotOf, holds, installed}
 use Rattle.board.proofs.Found.{first-found}
 
-abbrev pub Keeps : Slot → Key → Type 0
+abbrev pub Keeps : Slot → Installation → Type 0
 Keeps s none = s .present ≡ false
-Keeps s (key n k) = (s .present ≡ true) × (s .seq ≡ n) × (s .key ≡ k)
+Keeps s (key n k) = (s .present ≡ true) × (s .seq ≡ n) × (s .key ≡ k .octets)
 
-pub keeps-number : (s : Slot) (x : Key) (n : ℕ) → Keeps s x → carries s n ≡ numbered x n
+pub keeps-number : (s : Slot) (x : Installation) (n : ℕ) → Keeps s x → carries s n ≡ numbered x n
 unfolding carries
 keeps-number s none n w = ap (λ (t : Bool). both t (eqb (s .seq) n)) w
 keeps-number s (key q k) n w = ap₂ (λ (t : Bool) (y : ℕ). both t (eqb y n)) (w .0) (w .1)
 
-pub keeps-same : (s : Slot) (x : Key) (n : ℕ) (k : List ℕ) → Keeps s x → holds s n k ≡ sameKey x (key n k)
+pub keeps-same : (s : Slot) (x : Installation) (n : ℕ) (k : Key) → Keeps s x → holds s n k ≡ sameKey x (key n k)
 unfolding holds carries
-keeps-same s none n k w = ap (λ (t : Bool). both (both t (eqb (s .seq) n)) (eqList (s .key) k)) w
+keeps-same s none n k w = ap (λ (t : Bool). both (both t (eqb (s .seq) n)) (eqList (s .key) (k .octets))) w
 keeps-same s (key q j) n k w =
-    ap (λ (t : Bool). both (both t (eqb (s .seq) n)) (eqList (s .key) k)) (w .0)
-    ∙ ap₂ (λ (y : ℕ) (z : List ℕ). both (eqb y n) (eqList z k)) (w .1) (w .2)
+    ap (λ (t : Bool). both (both t (eqb (s .seq) n)) (eqList (s .key) (k .octets))) (w .0)
+    ∙ ap₂ (λ (y : ℕ) (zz : List ℕ). both (eqb y n) (eqList zz (k .octets))) (w .1) (w .2)
 
-pub record Slots (ss : List Slot) (keys : ℕ → Key) : Type 0 where
+pub record Slots (ss : List Slot) (keys : ℕ → Installation) : Type 0 where
   pub two : length ss ≡ 2
   pub keeps : (i : ℕ) → i < 2 → Keeps (slotAt ss i) (keys i)
 
 pub slots-fresh : (own : ℕ) → Slots (fresh own .slots) (λ i. none)
 slots-fresh own = record { two = refl; keeps = λ i h. ap (λ (s : Slot). s .present) (getD-tab 2 (λ j. noSlot) i _ h) }
 
-module _ {ss : List Slot} {keys : ℕ → Key} (w : Slots ss keys) where
+module _ {ss : List Slot} {keys : ℕ → Installation} (w : Slots ss keys) where
   -- the lowest slot with a number, by what was installed
   pub slot-told : (n : ℕ) → slotOf ss n ≡ firstAt (λ i. numbered (keys i) n) 0 2
   unfolding slotOf
   slot-told n = first-ext _ _ 2 0 (λ i a b. keeps-number (slotAt ss i) (keys i) n (w .keeps i (omega arith)))
 
   -- the key that was found
-  pub found-key : (n i : ℕ) → slotOf ss n ≡ At i → i < 2 → keys i ≡ key n (slotAt ss i .key)
+  pub found-key : (n i : ℕ) → slotOf ss n ≡ At i → i < 2 → keys i ≡ key n (theKey (slotAt ss i .key))
   unfolding slotOf
   found-key n i e h = go (keys i) refl
     where
       carried : carries (slotAt ss i) n ≡ true
       carried = first-found (λ j. carries (slotAt ss j) n) 2 0 i e .passes
 
-      go : (x : Key) → keys i ≡ x → keys i ≡ key n (slotAt ss i .key)
+      go : (x : Installation) → keys i ≡ x → keys i ≡ key n (theKey (slotAt ss i .key))
       go none f =
           let k : Keeps (slotAt ss i) none = subst (Keeps (slotAt ss i)) f (w .keeps i h) in
           clash (sym (keeps-number (slotAt ss i) none n k) ∙ carried) refl
       go (key q j) f =
           let k : Keeps (slotAt ss i) (key q j) = subst (Keeps (slotAt ss i)) f (w .keeps i h) in
-          f ∙ ap₂ key (numbers q (sym (keeps-number (slotAt ss i) (key q j) n k) ∙ carried)) (sym (k .2))
+          f ∙ ap₂ key (numbers q (sym (keeps-number (slotAt ss i) (key q j) n k) ∙ carried)) (ap theKey (sym (k .2)))
         where
           numbers : (q : ℕ) → eqb q n ≡ true → q ≡ n
           numbers q g = eqb-true q n g
 
-  pub install-slot : (i n : ℕ) (k : List ℕ) → i < 2 → Slots (set ss i (installed n k)) (λ j. if eqb i j then key n k else keys j)
+  pub install-slot : (i n : ℕ) (k : Key) → i < 2 → Slots (set ss i (installed n k)) (λ j. if eqb i j then key n k else keys j)
   install-slot i n k h =
       record {
         two = length-set ss i (installed n k) ∙ w .two;

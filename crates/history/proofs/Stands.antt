@@ -8,15 +8,17 @@ use native.Mathlib.Omega.{arith}
 use lib.Dec.{eqb, ltb}
 use lib.ListN.{set, take}
 use borrow.Author.Tests.{eqb-true, eqb-false, ltb-false}
+use Rattle.octets.specs.Keys.{Key, theKey}
+use Rattle.settings.specs.Settings.{Settings}
 use Rattle.octets.proofs.Choices.{choose}
 use Rattle.octets.specs.Addresses.{noAddress}
 use Rattle.octets.specs.Choice.{if_then_else_, both}
 use Rattle.octets.specs.Lists.{eqList}
 use Rattle.history.specs.Calls.{Call, install, switch, addLink, removeLink, forget, opening, sealing, looking, writing}
 use Rattle.history.specs.Calls.{handedOut, exchanges}
-use Rattle.history.specs.Events.{Event, Key, Heard, slot, link, keyed, key, none, keyIn, sameKey, slotFor, without, heardIn}
-use Rattle.history.specs.Story.{installing, hearing, eventsOf, readAt, story}
-use Rattle.history.specs.Running.{Held, held, byLists, byBoard, byRows, byNetwork, byAps, bySeal, step, start, run, replies}
+use Rattle.history.specs.Events.{Event, Installation, HeardFrame, slot, link, keyed, key, none, keyIn, sameKey, slotFor, without, heardIn}
+use Rattle.history.specs.Story.{installing, hearing, eventsOf, story}
+use Rattle.history.specs.Running.{Held, held, byLists, byBoard, byRows, byNetwork, byFrame, step, start, run, replies}
 use Rattle.history.proofs.Searches.{clash}
 use Rattle.history.proofs.Counters.{bound, bound-more, counters, less, names, names-without, counters-gone, counters-other}
 use Rattle.history.proofs.Rows.{Rows, zeroes, rows-ext, rows-fresh}
@@ -28,13 +30,13 @@ use Rattle.answers.specs.Numbers.{done}
 use Rattle.frames.specs.declared.Layer.{Layer}
 use Rattle.frames.specs.declared.Layer.the-variants.{Network, Aps}
 use Rattle.frames.specs.declared.Secured.{Secured}
-use Rattle.frames.specs.Reading.{secured, readNetwork, readAps}
+use Rattle.frames.specs.Reading.{secured, reading}
 use Rattle.frames.proofs.Found.{secured-frame}
 use Rattle.board.specs.declared.Board.{Board}
 use Rattle.board.specs.declared.Link.{Link}
 use Rattle.board.specs.declared.Place.{Place}
 use Rattle.board.specs.declared.Place.the-variants.{At, Absent}
-use Rattle.board.specs.Rows.{listsFit, findRow, freed}
+use Rattle.board.specs.Rows.{lists, listsFit, findRow}
 use Rattle.board.specs.State.{slotAt, linkAt, carries, pairs, noLink, fresh, withSlot, withLink}
 use Rattle.board.specs.Sending.{Framed, spent}
 use Rattle.board.specs.Requests.{Left, Changed, Freed, slotOf, linkOf, freeLink, holds, added, make}
@@ -45,22 +47,21 @@ use Rattle.commands.specs.declared.Command.{Command}
 use Rattle.commands.specs.Writing.{counted}
 use Rattle.board.specs.Requests as requests
 use Rattle.network.specs.Opening as network
-use Rattle.aps.specs.Opening as aps
 
-pub record Stands (m : ℕ) (x : Held) (h : List Event) : Type 0 where
+pub record Stands (z : Settings) (x : Held) (h : List Event) : Type 0 where
   pub slots : Slots (x .board .slots) (λ i. keyIn h (slot i))
-  pub rows : Rows m (x .addrs) (x .floors) (λ i a. counters a (heardIn h (slot i))) (λ i. names (heardIn h (slot i)))
+  pub rows : Rows (z .rows) (x .lists .addrs) (x .lists .floors) (λ i a. counters a (heardIn h (slot i))) (λ i. names (heardIn h (slot i)))
   pub links : Links (x .board .links) (λ a. keyIn h (link a)) (λ a. counters a (heardIn h (link a)))
 
-pub stands-fresh : (m own : ℕ) → Stands m (start m own) []
+pub stands-fresh : (z : Settings) (own : ℕ) → Stands z (start z own) []
 unfolding make
-stands-fresh m own = choose P (noAddress own) _ _ (λ _. fresh-so 0) (λ _. fresh-so own)
+stands-fresh z own = choose P (noAddress own) _ _ (λ _. fresh-so 0) (λ _. fresh-so own)
   where
     P : Changed → Type 0
-    P r = Stands m (held (r .board) (zeroes (2 * m)) (zeroes (2 * m))) []
+    P r = Stands z (held (r .board) (lists (zeroes (2 * z .rows)) (zeroes (2 * z .rows)))) []
 
-    fresh-so : (a : ℕ) → Stands m (held (fresh a) (zeroes (2 * m)) (zeroes (2 * m))) []
-    fresh-so a = record { slots = slots-fresh a; rows = rows-fresh m; links = links-fresh a }
+    fresh-so : (a : ℕ) → Stands z (held (fresh a) (lists (zeroes (2 * z .rows)) (zeroes (2 * z .rows)))) []
+    fresh-so a = record { slots = slots-fresh a; rows = rows-fresh (z .rows); links = links-fresh a }
 
 -- a function of a choice
 pick-over : {A B : Type 0} (f : A → B) (t : Bool) (x y : A) → (if t then f x else f y) ≡ f (if t then x else y)
@@ -68,64 +69,64 @@ pick-over f true x y = refl
 pick-over f false x y = refl
 
 -- nobody's address is no sender's
-pub sender-some : (l : Layer) (f : List ℕ) (g : ℕ) (s : Secured) → readAt l f g ≡ secured s → s .sender ≡ 0 → ⊥
+pub sender-some : (z : Settings) (l : Layer) (f : List ℕ) (g : ℕ) (s : Secured) → reading z l f g ≡ secured s → s .sender ≡ 0 → ⊥
 unfolding noAddress
-sender-some Network f g s e z = clash (ap noAddress z) (secured-frame Network f g s e .someone)
-sender-some Aps f g s e z = clash (ap noAddress z) (secured-frame Aps f g s e .someone)
+sender-some z Network f g s e zz = clash (ap noAddress zz) (secured-frame z Network f g s e .someone)
+sender-some z Aps f g s e zz = clash (ap noAddress zz) (secured-frame z Aps f g s e .someone)
 
 -- ---- one call
 
-module _ (m : ℕ) (x : Held) (h : List Event) (w : Stands m x h) where
+module _ (z : Settings) (x : Held) (h : List Event) (w : Stands z x h) where
   abbrev b : Board
   b = x .board
 
   -- ---- network keys
 
-  pub stands-install : (i n : ℕ) (k : List ℕ) → Stands m (step m (install i n k) x .after) (eventsOf h (install i n k) (step m (install i n k) x .reply) ++ h)
+  pub stands-install : (i n : ℕ) (k : Key) → Stands z (step z (install i n k) x .after) (eventsOf z h (install i n k) (step z (install i n k) x .reply) ++ h)
   unfolding requests.install
   stands-install i n k =
-      choose P (not (listsFit m (x .addrs) (x .floors))) _ _ (λ _. w) λ _.
+      choose P (not (listsFit z (x .lists))) _ _ (λ _. w) λ _.
       choose P (ltb 1 i) _ _ (λ _. w) λ e.
       choose P (carries (slotAt (b .slots) (1 - i)) n) _ _ (λ _. w) λ _.
       choose P (holds (slotAt (b .slots) i) n k) _ _ (λ f. again (ltb-false 1 i e) f) (λ f. anew (ltb-false 1 i e) f)
     where
       P : Left → Type 0
-      P r = Stands m (byLists r .after) (eventsOf h (install i n k) (byLists r .reply) ++ h)
+      P r = Stands z (byLists r .after) (eventsOf z h (install i n k) (byLists r .reply) ++ h)
 
       told : i ≤ 1 → holds (slotAt (b .slots) i) n k ≡ sameKey (keyIn h (slot i)) (key n k)
       told l = keeps-same (slotAt (b .slots) i) (keyIn h (slot i)) n k (w .slots .keeps i (omega arith))
 
-      again : i ≤ 1 → holds (slotAt (b .slots) i) n k ≡ true → Stands m x (installing h (slot i) (key n k) ++ h)
+      again : i ≤ 1 → holds (slotAt (b .slots) i) n k ≡ true → Stands z x (installing h (slot i) (key n k) ++ h)
       again l f = rw (sym (told l) ∙ f) w
 
-      put : i < 2 → Stands m (held (withSlot b i (requests.installed n k)) (freed (x .addrs) (i * m) m) (freed (x .floors) (i * m) m)) (keyed (slot i) (key n k) ∷ h)
+      put : i < 2 → Stands z (held (withSlot b i (requests.installed n k)) (requests.rowsFreed z (x .lists) i)) (keyed (slot i) (key n k) ∷ h)
       put l =
           record {
             slots = install-slot (w .slots) i n k l;
-            rows = rows-ext (clear-rows m (w .rows) i l) (λ j b. pick-over (counters b) (eqb i j) [] (heardIn h (slot j)))
+            rows = rows-ext (clear-rows z (w .rows) i l) (λ j b. pick-over (counters b) (eqb i j) [] (heardIn h (slot j)))
                 (λ j. pick-over names (eqb i j) [] (heardIn h (slot j)));
             links = w .links;
           }
 
       anew : i ≤ 1 → holds (slotAt (b .slots) i) n k ≡ false
-          → Stands m (held (withSlot b i (requests.installed n k)) (freed (x .addrs) (i * m) m) (freed (x .floors) (i * m) m)) (installing h (slot i) (key n k) ++ h)
+          → Stands z (held (withSlot b i (requests.installed n k)) (requests.rowsFreed z (x .lists) i)) (installing h (slot i) (key n k) ++ h)
       anew l f = rw (sym (told l) ∙ f) (put (omega arith))
 
-  pub stands-switch : (n : ℕ) → Stands m (step m (switch n) x .after) (eventsOf h (switch n) (step m (switch n) x .reply) ++ h)
+  pub stands-switch : (n : ℕ) → Stands z (step z (switch n) x .after) (eventsOf z h (switch n) (step z (switch n) x .reply) ++ h)
   unfolding requests.switch
   stands-switch n = go (slotOf (b .slots) n)
     where
-      go : (p : Place) → Stands m (byBoard x (requests.switchTo b p) .after) (eventsOf h (switch n) (byBoard x (requests.switchTo b p) .reply) ++ h)
+      go : (p : Place) → Stands z (byBoard x (requests.switchTo b p) .after) (eventsOf z h (switch n) (byBoard x (requests.switchTo b p) .reply) ++ h)
       go (At i) = record { slots = w .slots; rows = w .rows; links = w .links }
       go Absent = w
 
-  pub stands-forget : (i a : ℕ) → Stands m (step m (forget i a) x .after) (eventsOf h (forget i a) (step m (forget i a) x .reply) ++ h)
+  pub stands-forget : (i a : ℕ) → Stands z (step z (forget i a) x .after) (eventsOf z h (forget i a) (step z (forget i a) x .reply) ++ h)
   unfolding requests.forget
   stands-forget i a =
-      choose P (not (listsFit m (x .addrs) (x .floors))) _ _ (λ _. w) λ _.
+      choose P (not (listsFit z (x .lists))) _ _ (λ _. w) λ _.
       choose P (ltb 1 i) _ _ (λ _. w) λ e.
       choose P (eqb a 0) _ _ (λ _. w) λ f.
-      go (ltb-false 1 i e) (eqb-false a 0 f) (findRow (x .addrs) (i * m) m a) refl
+      go (ltb-false 1 i e) (eqb-false a 0 f) (findRow (x .lists .addrs) (i * z .rows) (z .rows) a) refl
     where
       lost : (j c : ℕ) → (if both (eqb i j) (eqb a c) then [] else counters c (heardIn h (slot j)))
           ≡ counters c (if eqb i j then without a (heardIn h (slot j)) else heardIn h (slot j))
@@ -147,26 +148,26 @@ module _ (m : ℕ) (x : Held) (h : List Event) (w : Stands m x h) where
           by false = refl
 
       P : Freed → Type 0
-      P r = Stands m (byRows x r .after) (eventsOf h (forget i a) (byRows x r .reply) ++ h)
+      P r = Stands z (byRows x r .after) (eventsOf z h (forget i a) (byRows x r .reply) ++ h)
 
-      go : i ≤ 1 → (a ≡ 0 → ⊥) → (p : Place) → findRow (x .addrs) (i * m) m a ≡ p → P (requests.forgetAt (x .addrs) (x .floors) p)
+      go : i ≤ 1 → (a ≡ 0 → ⊥) → (p : Place) → findRow (x .lists .addrs) (i * z .rows) (z .rows) a ≡ p → P (requests.forgetAt (x .lists) p)
       go l az (At r) e =
           let i< : i < 2 = omega arith in
           record {
             slots = w .slots;
-            rows = rows-ext (lose-rows m (w .rows) i i< a az r (sym (row-there m (w .rows) i i< a) ∙ e)) lost gone;
+            rows = rows-ext (lose-rows z (w .rows) i i< a az r (sym (row-there z (w .rows) i i< a) ∙ e)) lost gone;
             links = w .links;
           }
       go l az Absent e = w
 
   -- ---- link keys
 
-  pub stands-add : (a : ℕ) (k : List ℕ) → Stands m (step m (addLink a k) x .after) (eventsOf h (addLink a k) (step m (addLink a k) x .reply) ++ h)
+  pub stands-add : (a : ℕ) (k : Key) → Stands z (step z (addLink a k) x .after) (eventsOf z h (addLink a k) (step z (addLink a k) x .reply) ++ h)
   unfolding requests.addLink
   stands-add a k = choose P (noAddress a) _ _ (λ _. w) λ _. place (linkOf (b .links) a) refl (w .links .tells a)
     where
       P : Changed → Type 0
-      P r = Stands m (byBoard x r .after) (eventsOf h (addLink a k) (byBoard x r .reply) ++ h)
+      P r = Stands z (byBoard x r .after) (eventsOf z h (addLink a k) (byBoard x r .reply) ++ h)
 
       now : pairs (added a k) a ≡ true
       now = pair-mine (added a k) a refl refl
@@ -186,23 +187,23 @@ module _ (m : ℕ) (x : Held) (h : List Event) (w : Stands m x h) where
           })
 
       new : (p : Place) → freeLink (b .links) ≡ p → linkOf (b .links) a ≡ Absent → keyIn h (link a) ≡ none → P (requests.addNew b a k p)
-      new (At i) e f t = let g = free (w .links) a i f e in put i (g .0) (g .1) (g .2) (ap (λ (y : Key). sameKey y (key 0 k)) t)
+      new (At i) e f t = let g = free (w .links) a i f e in put i (g .0) (g .1) (g .2) (ap (λ (y : Installation). sameKey y (key 0 k)) t)
       new Absent e f t = w
 
       place : (p : Place) → linkOf (b .links) a ≡ p → Tells (b .links) p (keyIn h (link a)) (counters a (heardIn h (link a))) → P (requests.addTo b a k p)
       place (At i) e t =
-          let told : sameKey (keyIn h (link a)) (key 0 k) ≡ eqList (linkAt (b .links) i .key) k = ap (λ (y : Key). sameKey y (key 0 k)) (t .0) in
+          let told : sameKey (keyIn h (link a)) (key 0 k) ≡ eqList (linkAt (b .links) i .key) (k .octets) = ap (λ (y : Installation). sameKey y (key 0 k)) (t .0) in
           let g = mine (w .links) a i e in
-          choose P (eqList (linkAt (b .links) i .key) k) _ _ (λ f. rw (told ∙ f) w)
+          choose P (eqList (linkAt (b .links) i .key) (k .octets)) _ _ (λ f. rw (told ∙ f) w)
           (λ f. put i (g .low) (g .was) (g .others) (told ∙ f))
       place Absent e t = new (freeLink (b .links)) refl e t
 
-  pub stands-remove : (a : ℕ) → Stands m (step m (removeLink a) x .after) (eventsOf h (removeLink a) (step m (removeLink a) x .reply) ++ h)
+  pub stands-remove : (a : ℕ) → Stands z (step z (removeLink a) x .after) (eventsOf z h (removeLink a) (step z (removeLink a) x .reply) ++ h)
   unfolding requests.removeLink
   stands-remove a = choose P (eqb a 0) _ _ (λ _. w) λ _. place (linkOf (b .links) a) refl
     where
       P : Changed → Type 0
-      P r = Stands m (byBoard x r .after) (eventsOf h (removeLink a) (byBoard x r .reply) ++ h)
+      P r = Stands z (byBoard x r .after) (eventsOf z h (removeLink a) (byBoard x r .reply) ++ h)
 
       place : (p : Place) → linkOf (b .links) a ≡ p → P (requests.removeAt b p)
       place (At i) e =
@@ -223,25 +224,25 @@ module _ (m : ℕ) (x : Held) (h : List Event) (w : Stands m x h) where
   slot-for n = sym (slot-told (w .slots) n)
 
   pub stands-network : (f : List ℕ) (g : ℕ) (o : List ℕ)
-      → Stands m (step m (opening Network f g o) x .after) (eventsOf h (opening Network f g o) (step m (opening Network f g o) x .reply) ++ h)
+      → Stands z (step z (opening Network f g o) x .after) (eventsOf z h (opening Network f g o) (step z (opening Network f g o) x .reply) ++ h)
   unfolding floorOf
-  stands-network f g o = network-ways m b f (x .addrs) (x .floors) o P (λ n. w) (λ n p e. rw e w) passed
+  stands-network f g o = network-ways z b f (x .lists .addrs) (x .lists .floors) o P (λ n. w) (λ n p e. rw e w) passed
     where
       P : network.Opening → Type 0
-      P r = Stands m (byNetwork x r .after) (eventsOf h (opening Network f g o) (byNetwork x r .reply) ++ h)
+      P r = Stands z (byNetwork x r .after) (eventsOf z h (opening Network f g o) (byNetwork x r .reply) ++ h)
 
-      passed : (s : Secured) (i r n : ℕ) (p : List ℕ) → Passed m b f (x .addrs) (x .floors) o s i r
-          → Stands m (held b (set (x .addrs) r (s .sender)) (set (x .floors) r (s .counter + 1))) (hearing h Network f (take n p) (readNetwork f) ++ h)
+      passed : (s : Secured) (i r n : ℕ) (p : List ℕ) → Passed z b f (x .lists .addrs) (x .lists .floors) o s i r
+          → Stands z (held b (lists (set (x .lists .addrs) r (s .sender)) (set (x .lists .floors) r (s .counter + 1)))) (hearing h Network f (take n p) (reading z Network f 0) ++ h)
       passed s i r n p t =
           rw (t .read, slot-for (s .sequence), t .found)
           (record {
             slots = w .slots;
-            rows = rows-ext (hear-rows m (w .rows) i i< (s .sender) az r (s .counter) (t .row) least) (λ j c. more (eqb i j) j c)
+            rows = rows-ext (hear-rows z (w .rows) i i< (s .sender) az r (s .counter) (t .row) least) (λ j c. more (eqb i j) j c)
                 (λ j. pick-over names (eqb i j) (new ∷ heardIn h (slot j)) (heardIn h (slot j)));
             links = w .links;
           })
         where
-          new : Heard
+          new : HeardFrame
           new = record { sender = s .sender; counter = s .counter; octets = f; plain = take n p }
 
           more : (t : Bool) (j c : ℕ) → (if both t (eqb (s .sender) c) then s .counter ∷ counters c (heardIn h (slot j)) else counters c (heardIn h (slot j)))
@@ -253,27 +254,27 @@ module _ (m : ℕ) (x : Held) (h : List Event) (w : Stands m x h) where
           i< = slot-place (b .slots) (s .sequence) i (t .found)
 
           az : s .sender ≡ 0 → ⊥
-          az = sender-some Network f g s (t .read)
+          az = sender-some z Network f g s (t .read)
 
           least : bound (counters (s .sender) (heardIn h (slot i))) ≤ s .counter
-          least = omega (arith, t .least, w .rows .floor i (s .sender) i< az, ap (floorAt (x .floors)) (row-there m (w .rows) i i< (s .sender)))
+          least = omega (arith, t .least, w .rows .floor i (s .sender) i< az, ap (floorAt (x .lists .floors)) (row-there z (w .rows) i i< (s .sender)))
 
   pub stands-aps : (f : List ℕ) (g : ℕ) (o : List ℕ)
-      → Stands m (step m (opening Aps f g o) x .after) (eventsOf h (opening Aps f g o) (step m (opening Aps f g o) x .reply) ++ h)
+      → Stands z (step z (opening Aps f g o) x .after) (eventsOf z h (opening Aps f g o) (step z (opening Aps f g o) x .reply) ++ h)
   unfolding pairs
   stands-aps f g o = aps-ways b f g o P (λ n. w) (λ n p e. rw e w) passed
     where
-      P : aps.Opening → Type 0
-      P r = Stands m (byAps x r .after) (eventsOf h (opening Aps f g o) (byAps x r .reply) ++ h)
+      P : Framed → Type 0
+      P r = Stands z (byFrame x r .after) (eventsOf z h (opening Aps f g o) (byFrame x r .reply) ++ h)
 
       passed : (s : Secured) (i n : ℕ) (p : List ℕ) → PassedAps b f g o s i
-          → Stands m (held (withFloor b i (s .counter + 1)) (x .addrs) (x .floors)) (hearing h Aps f (take n p) (readAps f g) ++ h)
+          → Stands z (held (withFloor b i (s .counter + 1)) (x .lists)) (hearing h Aps f (take n p) (reading z Aps f g) ++ h)
       passed s i n p t = rw (t .read) (record { slots = w .slots; rows = w .rows; links = links-ext put keys-so opened-so })
         where
           a : ℕ
           a = s .sender
 
-          new : Heard
+          new : HeardFrame
           new = record { sender = s .sender; counter = s .counter; octets = f; plain = take n p }
 
           entry : Link
@@ -294,18 +295,18 @@ module _ (m : ℕ) (x : Held) (h : List Event) (w : Stands m x h) where
           pairing : pairs entry a ≡ true
           pairing = g' .pairing
 
-          put : Links (set (b .links) i entry) (λ c. if eqb a c then key 0 (linkAt (b .links) i .key) else keyIn h (link c))
+          put : Links (set (b .links) i entry) (λ c. if eqb a c then key 0 (theKey (linkAt (b .links) i .key)) else keyIn h (link c))
               (λ c. if eqb a c then s .counter ∷ counters a (heardIn h (link a)) else counters c (heardIn h (link c)))
           put =
               entry-put (w .links) i a entry (g' .low) (g' .was) (λ c ne. pair-other entry a c pairing ne) (g' .others)
-              (linkAt (b .links) i .key) (s .counter ∷ counters a (heardIn h (link a))) pairing refl
+              (theKey (linkAt (b .links) i .key)) (s .counter ∷ counters a (heardIn h (link a))) pairing refl
               (sym (bound-more (s .counter) (counters a (heardIn h (link a))) (omega (arith, t .least, told .1))))
 
-          keys-so : (c : ℕ) → (if eqb a c then key 0 (linkAt (b .links) i .key) else keyIn h (link c)) ≡ keyIn h (link c)
+          keys-so : (c : ℕ) → (if eqb a c then key 0 (theKey (linkAt (b .links) i .key)) else keyIn h (link c)) ≡ keyIn h (link c)
           keys-so c = go (eqb a c) refl
             where
-              go : (u : Bool) → eqb a c ≡ u → (if u then key 0 (linkAt (b .links) i .key) else keyIn h (link c)) ≡ keyIn h (link c)
-              go true e = sym (told .0) ∙ ap (λ (z : ℕ). keyIn h (link z)) (eqb-true a c e)
+              go : (u : Bool) → eqb a c ≡ u → (if u then key 0 (theKey (linkAt (b .links) i .key)) else keyIn h (link c)) ≡ keyIn h (link c)
+              go true e = sym (told .0) ∙ ap (λ (zz : ℕ). keyIn h (link zz)) (eqb-true a c e)
               go false e = refl
 
           opened-so : (c : ℕ) → (if eqb a c then s .counter ∷ counters a (heardIn h (link a)) else counters c (heardIn h (link c)))
@@ -314,42 +315,42 @@ module _ (m : ℕ) (x : Held) (h : List Event) (w : Stands m x h) where
             where
               go : (u : Bool) → eqb a c ≡ u → (if u then s .counter ∷ counters a (heardIn h (link a)) else counters c (heardIn h (link c)))
                   ≡ counters c (if u then new ∷ heardIn h (link c) else heardIn h (link c))
-              go true e = rw e (ap (λ (z : ℕ). s .counter ∷ counters z (heardIn h (link z))) (eqb-true a c e))
+              go true e = rw e (ap (λ (zz : ℕ). s .counter ∷ counters zz (heardIn h (link zz))) (eqb-true a c e))
               go false e = refl
 
   -- ---- sealing
 
   pub stands-seal : (l : Layer) (f : List ℕ) (a k : ℕ) (o : List ℕ)
-      → Stands m (step m (sealing l f a k o) x .after) (eventsOf h (sealing l f a k o) (step m (sealing l f a k o) x .reply) ++ h)
+      → Stands z (step z (sealing l f a k o) x .after) (eventsOf z h (sealing l f a k o) (step z (sealing l f a k o) x .reply) ++ h)
   unfolding spent
   stands-seal Network f a k o =
-      network-seals b f o (λ (r : Framed). Stands m (bySeal x r .after) (eventsOf h (sealing Network f a k o) (bySeal x r .reply) ++ h)) (λ n. w)
+      network-seals b f o (λ (r : Framed). Stands z (byFrame x r .after) (eventsOf z h (sealing Network f a k o) (byFrame x r .reply) ++ h)) (λ n. w)
       (λ n p t. record { slots = w .slots; rows = w .rows; links = w .links })
   stands-seal Aps f a k o =
-      aps-seals b f a k o (λ (r : Framed). Stands m (bySeal x r .after) (eventsOf h (sealing Aps f a k o) (bySeal x r .reply) ++ h)) (λ n. w)
+      aps-seals b f a k o (λ (r : Framed). Stands z (byFrame x r .after) (eventsOf z h (sealing Aps f a k o) (byFrame x r .reply) ++ h)) (λ n. w)
       (λ n p t. record { slots = w .slots; rows = w .rows; links = w .links })
 
   -- the writer moves the APS counter, and nothing else
-  pub stands-write : (a : Bool) (c : Command) (k r o : List ℕ) → Stands m (step m (writing a c k r o) x .after) (eventsOf h (writing a c k r o) (step m (writing a c k r o) x .reply) ++ h)
+  pub stands-write : (a : Bool) (c : Command) (k r o : List ℕ) → Stands z (step z (writing a c k r o) x .after) (eventsOf z h (writing a c k r o) (step z (writing a c k r o) x .reply) ++ h)
   unfolding counted
   stands-write a c k r o =
-      writes b a c k r o (λ (w : Framed). Stands m (bySeal x w .after) (eventsOf h (writing a c k r o) (bySeal x w .reply) ++ h)) (λ n. w)
+      writes b a c k r o (λ (w : Framed). Stands z (byFrame x w .after) (eventsOf z h (writing a c k r o) (byFrame x w .reply) ++ h)) (λ n. w)
       (λ n p. record { slots = w .slots; rows = w .rows; links = w .links })
 
-pub stands-step : (m : ℕ) (c : Call) (x : Held) (h : List Event) → Stands m x h → Stands m (step m c x .after) (eventsOf h c (step m c x .reply) ++ h)
-stands-step m (install i n k) x h w = stands-install m x h w i n k
-stands-step m (switch n) x h w = stands-switch m x h w n
-stands-step m (addLink a k) x h w = stands-add m x h w a k
-stands-step m (removeLink a) x h w = stands-remove m x h w a
-stands-step m (forget i a) x h w = stands-forget m x h w i a
-stands-step m (opening Network f g o) x h w = stands-network m x h w f g o
-stands-step m (opening Aps f g o) x h w = stands-aps m x h w f g o
-stands-step m (sealing l f a k o) x h w = stands-seal m x h w l f a k o
-stands-step m (looking Network f g) x h w = w
-stands-step m (looking Aps f g) x h w = w
-stands-step m (writing a c k r o) x h w = stands-write m x h w a c k r o
+pub stands-step : (z : Settings) (c : Call) (x : Held) (h : List Event) → Stands z x h → Stands z (step z c x .after) (eventsOf z h c (step z c x .reply) ++ h)
+stands-step z (install i n k) x h w = stands-install z x h w i n k
+stands-step z (switch n) x h w = stands-switch z x h w n
+stands-step z (addLink a k) x h w = stands-add z x h w a k
+stands-step z (removeLink a) x h w = stands-remove z x h w a
+stands-step z (forget i a) x h w = stands-forget z x h w i a
+stands-step z (opening Network f g o) x h w = stands-network z x h w f g o
+stands-step z (opening Aps f g o) x h w = stands-aps z x h w f g o
+stands-step z (sealing l f a k o) x h w = stands-seal z x h w l f a k o
+stands-step z (looking Network f g) x h w = w
+stands-step z (looking Aps f g) x h w = w
+stands-step z (writing a c k r o) x h w = stands-write z x h w a c k r o
 
 -- after any calls
-pub stands : (m own : ℕ) (cs : List Call) → Stands m (run m own cs) (story (exchanges (replies m own) cs))
-stands m own [] = stands-fresh m own
-stands m own (c ∷ cs) = stands-step m c (run m own cs) (story (exchanges (replies m own) cs)) (stands m own cs)
+pub stands : (z : Settings) (own : ℕ) (cs : List Call) → Stands z (run z own cs) (story z (exchanges (replies z own) cs))
+stands z own [] = stands-fresh z own
+stands z own (c ∷ cs) = stands-step z c (run z own cs) (story z (exchanges (replies z own) cs)) (stands z own cs)
