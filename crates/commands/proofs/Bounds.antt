@@ -13,7 +13,8 @@ use borrow.Author.Tests.{ltb-false}
 use Rattle.octets.proofs.Choices.{choose}
 use Rattle.octets.specs.Lists.{at}
 use Rattle.answers.specs.Numbers.{ProtectionTold}
-use Rattle.frames.specs.Reading.{readApsCommand}
+use Rattle.settings.specs.Settings.{Settings, longestAps}
+use Rattle.frames.specs.Reading.{PlainReading, unread, headed, readingCommand}
 use Rattle.tlvs.proofs.Walks.{Inside, walked-inside}
 use Rattle.tlvs.specs.declared.Walked.{Walked}
 use Rattle.tlvs.specs.declared.Wanted.the-variants.{Tag}
@@ -26,13 +27,11 @@ use Rattle.commands.specs.declared.Secret.{Secret}
 use Rattle.commands.specs.declared.Secret.the-variants.{NoSecret, Key, Hash}
 use Rattle.commands.specs.declared.Rest.{Rest}
 use Rattle.commands.specs.declared.Rest.the-variants.{End, Tlvs, Relay, Inner}
-use Rattle.commands.specs.declared.Place.{Place}
+use Rattle.commands.specs.declared.Span.{Span}
 use Rattle.commands.specs.Kinds.{listed}
 use Rattle.commands.specs.Table.{ruleOf, fits, known, allows}
-use Rattle.frames.specs.Aps.{longestAps}
-use Rattle.commands.specs.Reading.{Verdict, refused, sound, judgeKind, judgeListed, judgeHeader, judge}
-use Rattle.commands.specs.Parts.{octetsAt, keyIn, hashIn, keyPlace, hashPlace, restPlace, tlvsIn, innerIn, tlvsPlace, innerPlace, within, valuePlace}
-use Rattle.frames.specs.Reading as frames
+use Rattle.commands.specs.Reading.{Judgement, refused, sound, judgeKind, judgeListed, judgeHeader, judge}
+use Rattle.commands.specs.Parts.{octetsAt, keyIn, hashIn, keySpan, hashSpan, restSpan, tlvsIn, innerIn, tlvsSpan, innerSpan, within, valueSpan}
 use Rattle.tlvs.specs.declared.Walked.the-variants as walks
 
 pub size-most : (k : Kind) → ruleOf k .size ≤ 35
@@ -79,45 +78,45 @@ secret-in Up = omega arith
 pub part-rest : (i : ℕ) (l : List ℕ) → take (length l - i) (drop i l) ≡ drop i l
 part-rest i l = take-all (length l - i) (drop i l) (rw (length-drop i l) (le-refl (length l - i)))
 
-pub rest-fits : (r : Rest) (i : ℕ) (l : List ℕ) (t : Bool) → t ≡ fits r (take (length l - i) (drop i l)) → fits r (drop i l) ≡ t
-rest-fits r i l t e = ap (fits r) (sym (part-rest i l)) ∙ sym e
+pub rest-fits : (z : Settings) (r : Rest) (i : ℕ) (l : List ℕ) (t : Bool) → t ≡ fits z r (take (length l - i) (drop i l))
+    → fits z r (drop i l) ≡ t
+rest-fits z r i l t e = ap (fits z r) (sym (part-rest i l)) ∙ sym e
 
 -- ---- a frame that is sound has room for its command
 
-abbrev pub Sized : List ℕ → Verdict → Type 0
+abbrev pub Sized : List ℕ → Judgement → Type 0
 Sized f (refused n) = 0 ≤ length f
 Sized f (sound k) = 2 + ruleOf k .size ≤ length f
 
-module _ (f : List ℕ) (p : ProtectionTold) where
-  kind-sized : (k : Kind) → Sized f (judgeKind f p k)
+module _ (z : Settings) (f : List ℕ) (p : ProtectionTold) where
+  kind-sized : (k : Kind) → Sized f (judgeKind z f p k)
   unfolding judgeKind
   kind-sized k =
       choose (Sized f) (ltb (length f) (2 + ruleOf k .size)) _ _ (λ _. omega arith)
-      λ e. choose (Sized f) (not (fits (ruleOf k .rest) (drop (2 + ruleOf k .size) f))) _ _ (λ _. omega arith)
+      λ e. choose (Sized f) (not (fits z (ruleOf k .rest) (drop (2 + ruleOf k .size) f))) _ _ (λ _. omega arith)
       λ _. choose (Sized f) (not (allows (ruleOf k .under) p)) (refused 12) (sound k) (λ _. omega arith)
       (λ _. ltb-false (length f) (2 + ruleOf k .size) e)
 
-  listed-sized : (l : Listed) → Sized f (judgeListed f p l)
+  listed-sized : (l : Listed) → Sized f (judgeListed z f p l)
   unfolding judgeListed
   listed-sized Reserved = omega arith
   listed-sized (Is k) = kind-sized k
 
-  header-sized : (r : frames.Reading) → Sized f (judgeHeader f p r)
+  header-sized : (r : PlainReading) → Sized f (judgeHeader z f p r)
   unfolding judgeHeader
-  header-sized (frames.refused n) = omega arith
-  header-sized (frames.plain h) = listed-sized (listed (at f 2) (at f 3))
-  header-sized (frames.secured s) = omega arith
+  header-sized (unread n) = omega arith
+  header-sized (headed h) = listed-sized (listed (at f 2) (at f 3))
 
-  pub judge-sized : Sized f (judge f p)
+  pub judge-sized : Sized f (judge z f p)
   unfolding judge
   judge-sized =
       choose (Sized f) (not (known p)) _ _ (λ _. omega arith)
-      λ _. choose (Sized f) (ltb longestAps (length f)) (refused 2) (judgeHeader f p (readApsCommand f)) (λ _. omega arith)
-      (λ _. header-sized (readApsCommand f))
+      λ _. choose (Sized f) (ltb longestAps (length f)) (refused 2) (judgeHeader z f p (readingCommand f)) (λ _. omega arith)
+      (λ _. header-sized (readingCommand f))
 
--- ---- the places
+-- ---- the spans
 
-abbrev pub Holds : List ℕ → Place → Type 0
+abbrev pub Holds : List ℕ → Span → Type 0
 Holds f q = q .from + q .count ≤ length f
 
 module _ (f : List ℕ) where
@@ -133,47 +132,47 @@ module _ (f : List ℕ) where
   hash-in Key n e h = omega arith
   hash-in Hash n e h = omega arith
 
-  tlvs-in : (r : Rest) (q : Place) → Holds f q → Holds f (tlvsIn r q)
+  tlvs-in : (r : Rest) (q : Span) → Holds f q → Holds f (tlvsIn r q)
   unfolding tlvsIn
   tlvs-in End q h = omega arith
   tlvs-in Tlvs q h = h
   tlvs-in Relay q h = h
   tlvs-in Inner q h = omega arith
 
-  inner-in : (r : Rest) (q : Place) → Holds f q → Holds f (innerIn r q)
+  inner-in : (r : Rest) (q : Span) → Holds f q → Holds f (innerIn r q)
   unfolding innerIn
   inner-in End q h = omega arith
   inner-in Tlvs q h = omega arith
   inner-in Relay q h = omega arith
   inner-in Inner q h = h
 
-  rest-in : (i : ℕ) → i ≤ length f → Holds f (restPlace (length f) i)
-  unfolding restPlace
+  rest-in : (i : ℕ) → i ≤ length f → Holds f (restSpan (length f) i)
+  unfolding restSpan
   rest-in i h = omega arith
 
-  key-at : (v : Verdict) → Sized f v → Holds f (keyPlace v)
-  unfolding keyPlace
+  key-at : (v : Judgement) → Sized f v → Holds f (keySpan v)
+  unfolding keySpan
   key-at (refused n) h = omega arith
   key-at (sound k) h = key-in (ruleOf k .secret) (ruleOf k .size) (secret-in k) h
 
-  hash-at : (v : Verdict) → Sized f v → Holds f (hashPlace v)
-  unfolding hashPlace
+  hash-at : (v : Judgement) → Sized f v → Holds f (hashSpan v)
+  unfolding hashSpan
   hash-at (refused n) h = omega arith
   hash-at (sound k) h = hash-in (ruleOf k .secret) (ruleOf k .size) (secret-in k) h
 
-  tlvs-at : (v : Verdict) → Sized f v → Holds f (tlvsPlace (length f) v)
-  unfolding tlvsPlace
+  tlvs-at : (v : Judgement) → Sized f v → Holds f (tlvsSpan (length f) v)
+  unfolding tlvsSpan
   tlvs-at (refused n) h = omega arith
-  tlvs-at (sound k) h = tlvs-in (ruleOf k .rest) (restPlace (length f) (2 + ruleOf k .size)) (rest-in (2 + ruleOf k .size) h)
+  tlvs-at (sound k) h = tlvs-in (ruleOf k .rest) (restSpan (length f) (2 + ruleOf k .size)) (rest-in (2 + ruleOf k .size) h)
 
-  inner-at : (v : Verdict) → Sized f v → Holds f (innerPlace (length f) v)
-  unfolding innerPlace
+  inner-at : (v : Judgement) → Sized f v → Holds f (innerSpan (length f) v)
+  unfolding innerSpan
   inner-at (refused n) h = omega arith
-  inner-at (sound k) h = inner-in (ruleOf k .rest) (restPlace (length f) (2 + ruleOf k .size)) (rest-in (2 + ruleOf k .size) h)
+  inner-at (sound k) h = inner-in (ruleOf k .rest) (restSpan (length f) (2 + ruleOf k .size)) (rest-in (2 + ruleOf k .size) h)
 
   -- a value found in the TLVs lies inside them
-  pub value-holds : (tag : ℕ) (q : Place) → Holds f q → Holds f (valuePlace f tag q)
-  unfolding valuePlace
+  pub value-holds : (tag : ℕ) (q : Span) → Holds f q → Holds f (valueSpan f tag q)
+  unfolding valueSpan
   value-holds tag q h = go (walked (Tag tag) (octetsAt f q)) (walked-inside (Tag tag) (octetsAt f q))
     where
       most : length (octetsAt f q) ≤ q .count
@@ -184,34 +183,34 @@ module _ (f : List ℕ) where
       go walks.Absent i = omega arith
       go (walks.At j n) i = omega (arith, most)
 
-  -- ---- of a place that was answered for a verdict that is the judgement's
+  -- ---- of a span that was answered for a judgement that is the frame's
 
-  module _ (p : ProtectionTold) (v : Verdict) (q : Place) (e : v ≡ judge f p) where
-    pub key-holds : q ≡ keyPlace v → Holds f q
-    key-holds g = subst (Holds f) (sym g) (key-at v (subst (Sized f) (sym e) (judge-sized f p)))
+  module _ (z : Settings) (p : ProtectionTold) (v : Judgement) (q : Span) (e : v ≡ judge z f p) where
+    pub key-holds : q ≡ keySpan v → Holds f q
+    key-holds g = subst (Holds f) (sym g) (key-at v (subst (Sized f) (sym e) (judge-sized z f p)))
 
-    pub hash-holds : q ≡ hashPlace v → Holds f q
-    hash-holds g = subst (Holds f) (sym g) (hash-at v (subst (Sized f) (sym e) (judge-sized f p)))
+    pub hash-holds : q ≡ hashSpan v → Holds f q
+    hash-holds g = subst (Holds f) (sym g) (hash-at v (subst (Sized f) (sym e) (judge-sized z f p)))
 
-    pub tlvs-holds : q ≡ tlvsPlace (length f) v → Holds f q
-    tlvs-holds g = subst (Holds f) (sym g) (tlvs-at v (subst (Sized f) (sym e) (judge-sized f p)))
+    pub tlvs-holds : q ≡ tlvsSpan (length f) v → Holds f q
+    tlvs-holds g = subst (Holds f) (sym g) (tlvs-at v (subst (Sized f) (sym e) (judge-sized z f p)))
 
-    pub inner-holds : q ≡ innerPlace (length f) v → Holds f q
-    inner-holds g = subst (Holds f) (sym g) (inner-at v (subst (Sized f) (sym e) (judge-sized f p)))
+    pub inner-holds : q ≡ innerSpan (length f) v → Holds f q
+    inner-holds g = subst (Holds f) (sym g) (inner-at v (subst (Sized f) (sym e) (judge-sized z f p)))
 
 -- ---- parts
 
 pub upto : (a n : ℕ) → a + n - a ≡ n
 upto a n = omega arith
 
-pub same-place : {p q : Place} → p .from ≡ q .from → p .count ≡ q .count → p ≡ q
-same-place {p} {q} a b = λ i. record { from = a i; count = b i }
+pub same-span : {p q : Span} → p .from ≡ q .from → p .count ≡ q .count → p ≡ q
+same-span {p} {q} a b = λ i. record { from = a i; count = b i }
 
--- what was found in the TLVs at place q, which are lent as a part
-module _ (f : List ℕ) (tag : ℕ) (q : Place) (x : Walked) (e : x ≡ walked (Tag tag)
+-- what was found in the TLVs at span q, which are lent as a part
+module _ (f : List ℕ) (tag : ℕ) (q : Span) (x : Walked) (e : x ≡ walked (Tag tag)
     (take (q .from + q .count - q .from) (drop (q .from) f))) where
-  pub value-at : (y : Walked) → x ≡ y → within (q .from) y ≡ valuePlace f tag q
-  unfolding valuePlace
+  pub value-at : (y : Walked) → x ≡ y → within (q .from) y ≡ valueSpan f tag q
+  unfolding valueSpan
   value-at y g = ap (within (q .from)) (sym g ∙ e ∙ ap (λ (n : ℕ). walked (Tag tag) (take n (drop (q .from) f)))
       (upto (q .from) (q .count)))
 

@@ -10,10 +10,12 @@ use lib.Dec.{eqb}
 use lib.ListN.{length, take, drop, length-append, length-drop}
 use lib.Seq.{take-paste, take-length, take-at, drop-append-add, drop-drop}
 use borrow.Author.Tests.{lt-ltb, le-ltb, eq-eqb, ne-eqb, eqb-true}
+use Rattle.octets.proofs.Choices.{both-parts}
 use Rattle.octets.proofs.Pasted.{pasted-fits, pasted-onto}
 use Rattle.octets.specs.Choice.{both}
 use Rattle.octets.specs.Lists.{onto, pasted}
-use Rattle.answers.specs.Numbers.{FrameTold, sealed, turnedDown}
+use Rattle.settings.specs.Settings.{Settings, longestAps}
+use Rattle.answers.specs.Numbers.{FrameTold, written, turnedDown}
 use Rattle.board.specs.declared.Board.{Board}
 use Rattle.board.specs.Sending.{framed}
 use Rattle.commands.specs.declared.Command.{Command}
@@ -22,7 +24,7 @@ use Rattle.commands.specs.declared.Line.{Line}
 use Rattle.commands.specs.declared.Rule.{Rule}
 use Rattle.commands.specs.Kinds.{kindOf}
 use Rattle.commands.specs.Table.{ruleOf, fits, secretSize}
-use Rattle.commands.specs.Writing.{controlOf, ownOctets, frameOf, whole, counted, writeCommand}
+use Rattle.commands.specs.Writing.{commandControl, ownOctets, frameOf, whole, apsRaised, writeCommand}
 use Rattle.commands.specs.Code.{lined}
 use Rattle.commands.proofs.Bounds.{size-most}
 use Rattle.commands.specs.declared.Transported.the-variants as transports
@@ -83,78 +85,75 @@ own-length RelayUpstream k h = refl
 
 -- ---- the parts lent
 
-module _ (u : Rule) (k r : List ℕ) (n : ℕ) (e : n ≡ secretSize (u .secret)) where
-  pub whole-not : (length k ≡ n → ⊥) → false ≡ whole u k r
+module _ (z : Settings) (u : Rule) (k r : List ℕ) (n : ℕ) (e : n ≡ secretSize (u .secret)) where
+  pub whole-not : (length k ≡ n → ⊥) → false ≡ whole z u k r
   unfolding whole
-  whole-not h = ap (λ (t : Bool). both t (fits (u .rest) r)) (sym (ne-eqb (length k) (secretSize (u .secret)) (λ g. h (g ∙ sym e))))
+  whole-not h = ap (λ (t : Bool). both t (fits z (u .rest) r)) (sym (ne-eqb (length k) (secretSize (u .secret)) (λ g. h (g ∙ sym e))))
 
-  pub whole-by : length k ≡ n → (t : Bool) → t ≡ fits (u .rest) r → t ≡ whole u k r
+  pub whole-by : length k ≡ n → (t : Bool) → t ≡ fits z (u .rest) r → t ≡ whole z u k r
   unfolding whole
-  whole-by h t g = g ∙ ap (λ (t : Bool). both t (fits (u .rest) r)) (sym (eq-eqb (length k) (secretSize (u .secret)) (h ∙ e)))
+  whole-by h t g = g ∙ ap (λ (t : Bool). both t (fits z (u .rest) r)) (sym (eq-eqb (length k) (secretSize (u .secret)) (h ∙ e)))
 
-pub both-parts : (p q : Bool) → both p q ≡ true → (p ≡ true) × (q ≡ true)
-both-parts true q e = (refl, e)
-both-parts false q e = let z : _≡_ {A = ℕ} 0 1 = cc in absurd (omega arith)
-
-pub whole-secret : (u : Rule) (k r : List ℕ) → whole u k r ≡ true → length k ≡ secretSize (u .secret)
+pub whole-secret : (z : Settings) (u : Rule) (k r : List ℕ) → whole z u k r ≡ true → length k ≡ secretSize (u .secret)
 unfolding whole
-whole-secret u k r e = eqb-true (length k) (secretSize (u .secret))
-    (both-parts (eqb (length k) (secretSize (u .secret))) (fits (u .rest) r) e .0)
+whole-secret z u k r e = eqb-true (length k) (secretSize (u .secret))
+    (both-parts (eqb (length k) (secretSize (u .secret))) (fits z (u .rest) r) e .0)
 
-pub whole-rest : (u : Rule) (k r : List ℕ) → whole u k r ≡ true → fits (u .rest) r ≡ true
+pub whole-rest : (z : Settings) (u : Rule) (k r : List ℕ) → whole z u k r ≡ true → fits z (u .rest) r ≡ true
 unfolding whole
-whole-rest u k r e = both-parts (eqb (length k) (secretSize (u .secret))) (fits (u .rest) r) e .1
+whole-rest z u k r e = both-parts (eqb (length k) (secretSize (u .secret))) (fits z (u .rest) r) e .1
 
 -- ---- what the writer answers
 
 pub frame-up : {t u : FrameTold} {b c : Board} (o : List ℕ) → t ≡ u → b ≡ c → framed t b o ≡ framed u c o
 frame-up o p q = ap₂ (λ (x : FrameTold) (y : Board). framed x y o) p q
 
-module _ (b : Board) (ack : Bool) (c : Command) (k r o : List ℕ) where
-  pub frame-length : whole (ruleOf (kindOf c)) k r ≡ true → length (frameOf b ack c k r) ≡ 2 + ruleOf (kindOf c) .size + length r
+module _ (z : Settings) (b : Board) (ack : Bool) (c : Command) (k r o : List ℕ) where
+  pub frame-length : whole z (ruleOf (kindOf c)) k r ≡ true → length (frameOf b ack c k r) ≡ 2 + ruleOf (kindOf c) .size + length r
   unfolding frameOf
   frame-length w =
       let e : length (ownOctets c k ++ r) ≡ length (ownOctets c k) + length r = length-append (ownOctets c k) r in
-      omega (arith, e, own-length c k (whole-secret (ruleOf (kindOf c)) k r w))
+      omega (arith, e, own-length c k (whole-secret z (ruleOf (kindOf c)) k r w))
 
-  pub refuses-room : length o < 108 → framed (turnedDown 1) b o ≡ writeCommand b ack c k r o
+  pub refuses-room : length o < longestAps → framed (turnedDown 1) b o ≡ writeCommand z b ack c k r o
   unfolding writeCommand
   refuses-room h = simp (lt-ltb _ _ h)
 
   -- by the rule u that was looked up
   module _ (u : Rule) (e : u ≡ ruleOf (kindOf c)) where
-    ruled : (t : Bool) → t ≡ whole u k r → whole (ruleOf (kindOf c)) k r ≡ t
-    ruled t g = ap (λ (x : Rule). whole x k r) (sym e) ∙ sym g
+    ruled : (t : Bool) → t ≡ whole z u k r → whole z (ruleOf (kindOf c)) k r ≡ t
+    ruled t g = ap (λ (x : Rule). whole z x k r) (sym e) ∙ sym g
 
-    pub lent-secret : whole u k r ≡ true → length k ≡ secretSize (ruleOf (kindOf c) .secret)
-    lent-secret w = whole-secret (ruleOf (kindOf c)) k r (ruled true (sym w))
+    pub lent-secret : whole z u k r ≡ true → length k ≡ secretSize (ruleOf (kindOf c) .secret)
+    lent-secret w = whole-secret z (ruleOf (kindOf c)) k r (ruled true (sym w))
 
-    module _ (h : 108 ≤ length o) where
-      pub refuses-parts : whole u k r ≡ false → framed (turnedDown 11) b o ≡ writeCommand b ack c k r o
+    module _ (h : longestAps ≤ length o) where
+      pub refuses-parts : whole z u k r ≡ false → framed (turnedDown 11) b o ≡ writeCommand z b ack c k r o
       unfolding writeCommand
       refuses-parts w = simp (le-ltb _ _ h, ruled false (sym w))
 
-      pub refuses-long : whole u k r ≡ true → 106 - u .size < length r → framed (turnedDown 2) b o ≡ writeCommand b ack c k r o
+      pub refuses-long : whole z u k r ≡ true → longestAps - 2 - u .size < length r
+          → framed (turnedDown 2) b o ≡ writeCommand z b ack c k r o
       unfolding writeCommand
       refuses-long w g =
           let v = ruled true (sym w) in
           let s : u .size ≡ ruleOf (kindOf c) .size = ap (λ (x : Rule). x .size) e in
-          simp (le-ltb _ _ h, v, lt-ltb 108 (length (frameOf b ack c k r)) (omega (arith, frame-length v, size-most (kindOf c), s)))
+          simp (le-ltb _ _ h, v, lt-ltb longestAps (length (frameOf b ack c k r)) (omega (arith, frame-length v, size-most (kindOf c), s)))
 
-      pub writes : whole u k r ≡ true → length r ≤ 106 - u .size → (x : ℕ) (l : Line) (n : ℕ) (d : Board) (m : List ℕ)
-          → x ≡ controlOf ack → l .count ≡ ruleOf (kindOf c) .size → lined l ≡ ownOctets c k
-          → n ≡ 2 + l .count + length r → d ≡ counted b → m ≡ onto (x ∷ b .aps ∷ (lined l ++ r)) o
-          → framed (sealed n) d m ≡ writeCommand b ack c k r o
+      pub writes : whole z u k r ≡ true → length r ≤ longestAps - 2 - u .size → (x : ℕ) (l : Line) (n : ℕ) (d : Board) (m : List ℕ)
+          → x ≡ commandControl ack → l .count ≡ ruleOf (kindOf c) .size → lined l ≡ ownOctets c k
+          → n ≡ 2 + l .count + length r → d ≡ apsRaised b → m ≡ onto (x ∷ b .aps ∷ (lined l ++ r)) o
+          → framed (written n) d m ≡ writeCommand z b ack c k r o
       unfolding writeCommand frameOf
       writes w g x l n d m i a j p q y =
           let v = ruled true (sym w) in
-          let s : u .size ≡ ruleOf (kindOf c) .size = ap (λ (z : Rule). z .size) e in
+          let s : u .size ≡ ruleOf (kindOf c) .size = ap (λ (x : Rule). x .size) e in
           let f = frameOf b ack c k r in
-          let z : m ≡ onto f o = y ∙ ap₂ (λ (c : ℕ) (s : List ℕ). onto (c ∷ b .aps ∷ (s ++ r)) o) i j in
+          let out : m ≡ onto f o = y ∙ ap₂ (λ (c : ℕ) (s : List ℕ). onto (c ∷ b .aps ∷ (s ++ r)) o) i j in
           let len : n ≡ length f = p ∙ ap (λ (i : ℕ). 2 + i + length r) a ∙ sym (frame-length v) in
-          ap₂ (λ (i : ℕ) (s : List ℕ). framed (sealed i) d s) len z
-          ∙ ap (λ (e : Board). framed (sealed (length f)) e (onto f o)) q
-          ∙ sym (simp (le-ltb _ _ h, v, le-ltb 108 (length f) (omega (arith, frame-length v, size-most (kindOf c), s))))
+          ap₂ (λ (i : ℕ) (s : List ℕ). framed (written i) d s) len out
+          ∙ ap (λ (e : Board). framed (written (length f)) e (onto f o)) q
+          ∙ sym (simp (le-ltb _ _ h, v, le-ltb longestAps (length f) (omega (arith, frame-length v, size-most (kindOf c), s))))
 
 -- ---- by the command that was matched
 

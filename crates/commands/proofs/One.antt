@@ -12,7 +12,7 @@ use Rattle.commands.specs.declared.Command.the-variants.{TransportKey, U
 use Rattle.commands.specs.declared.Transported.{Transported}
 use Rattle.commands.specs.declared.Requested.{Requested}
 use Rattle.commands.specs.declared.Reading.{Reading}
-use Rattle.commands.specs.Told.{CommandTold, untyped, typed, toldCommand}
+use Rattle.commands.specs.Numbers.{CommandTold, untyped, typed, toldCommand}
 use Rattle.commands.specs.Reading.{ReadTold, read, unread, toldReading}
 use Rattle.commands.specs.declared.Transported.the-variants as transports
 use Rattle.commands.specs.declared.Requested.the-variants as requests

@@ -10,14 +10,15 @@ use lib.Dec.{eqb, ltb}
 use lib.ListN.{length, take, drop, take-append-drop, length-append, length-drop}
 use lib.Seq.{take-append-le, drop-append-le, drop-drop, take-at, drop-at}
 use borrow.Author.Tests.{ltb-true, ltb-false, le-ltb, eqb-true, not-false}
-use Rattle.octets.proofs.Choices.{choose}
+use Rattle.octets.proofs.Choices.{both-parts, choose}
 use Rattle.octets.proofs.Numbers.{least-spelled}
 use Rattle.octets.proofs.Tabs.{tab-at}
 use Rattle.octets.specs.Least.{leastFirst, numberAt, spelled}
 use Rattle.octets.specs.Lists.{at, tab}
-use Rattle.answers.specs.Numbers.{ProtectionTold, clear, under, FrameTold, opened, sealed, turnedDown}
-use Rattle.frames.specs.Aps.{apsType, delivery, ackFormat, apsForm, apsSecured, apsHeader, longestAps}
-use Rattle.frames.specs.Reading.{plain, readApsCommand}
+use Rattle.answers.specs.Numbers.{ProtectionTold, clear, under, FrameTold, opened, sealed, written, turnedDown}
+use Rattle.frames.specs.Aps.{apsType, delivery, ackFormat, apsForm, apsSecured, apsHeader}
+use Rattle.settings.specs.Settings.{Settings, longestAps}
+use Rattle.frames.specs.Reading.{headed, readHeader, readingCommand}
 use Rattle.board.specs.declared.Board.{Board}
 use Rattle.board.specs.Sending.{Framed, framed}
 use Rattle.tlvs.proofs.Walks.{Inside, walked-inside}
@@ -30,21 +31,21 @@ use Rattle.commands.specs.declared.Command.{Command}
 use Rattle.commands.specs.declared.Command.the-variants.{TransportKey, UpdateDevice, RemoveDevice, RequestKey, SwitchKey, Tunnel, VerifyKey, ConfirmKey, RelayDownstream, RelayUpstream}
 use Rattle.commands.specs.declared.Kind.{Kind}
 use Rattle.commands.specs.declared.Listed.the-variants.{Is}
-use Rattle.commands.specs.declared.Place.{Place}
+use Rattle.commands.specs.declared.Span.{Span}
 use Rattle.commands.specs.declared.Secret.{Secret}
 use Rattle.commands.specs.declared.Secret.the-variants.{NoSecret, Key, Hash}
 use Rattle.commands.specs.declared.Rest.{Rest}
 use Rattle.commands.specs.declared.Rest.the-variants.{End, Tlvs, Relay, Inner}
 use Rattle.commands.specs.Kinds.{transportOf, requestOf, listed, kindOf}
 use Rattle.commands.specs.Table.{ruleOf, secretSize, fits, known, allows}
-use Rattle.commands.specs.Told.{untyped, typed, toldCommand}
-use Rattle.commands.specs.Reading.{Verdict, sound, judge, commandIn, read, answered, readCommand}
-use Rattle.commands.specs.Parts.{octetsAt, keyIn, hashIn, keyPlace, hashPlace, restPlace, tlvsIn, innerIn, tlvsPlace, innerPlace, within, valuePlace}
-use Rattle.commands.specs.Writing.{controlOf, ownOctets, frameOf, whole, counted, writeCommand}
+use Rattle.commands.specs.Numbers.{untyped, typed, toldCommand}
+use Rattle.commands.specs.Reading.{Judgement, sound, judge, commandIn, read, answered, readCommand}
+use Rattle.commands.specs.Parts.{octetsAt, keyIn, hashIn, keySpan, hashSpan, restSpan, tlvsIn, innerIn, tlvsSpan, innerSpan, within, valueSpan}
+use Rattle.commands.specs.Writing.{commandControl, ownOctets, frameOf, whole, apsRaised, writeCommand}
 use Rattle.commands.specs.Reverse.{ranged, asKey, asHash, asTlvs, asInner, valueIn, GivesBack}
 use Rattle.commands.proofs.Bounds.{part-rest}
 use Rattle.commands.proofs.Judging.{judge-sound}
-use Rattle.commands.proofs.Laid.{both-parts, own-length, whole-secret, whole-rest}
+use Rattle.commands.proofs.Laid.{own-length, whole-secret, whole-rest}
 use Rattle.commands.specs.declared.Kind.the-variants as kinds
 use Rattle.commands.specs.declared.Transported.the-variants as transports
 use Rattle.commands.specs.declared.Requested.the-variants as requests
@@ -88,8 +89,8 @@ allowed-known (ClearOr n) (under m) k e = same-known n m k e
 
 -- ---- the header
 
-pub command-header : (f : List ℕ) (ack : Bool) → at f 0 ≡ controlOf ack → 2 ≤ length f → readApsCommand f ≡ plain 2
-unfolding readApsCommand apsForm apsType apsHeader apsSecured delivery ackFormat
+pub command-header : (f : List ℕ) (ack : Bool) → at f 0 ≡ commandControl ack → 2 ≤ length f → readingCommand f ≡ headed 2
+unfolding readingCommand readHeader apsForm apsType apsHeader apsSecured delivery ackFormat
 command-header f true e h = simp (le-ltb (length f) 1 (omega arith), e, le-ltb (length f) 2 h)
 command-header f false e h = simp (le-ltb (length f) 1 (omega arith), e, le-ltb (length f) 2 h)
 
@@ -232,7 +233,7 @@ part-in : (s t : List ℕ) (i n : ℕ) → i + n ≤ length s → take n (drop i
 part-in s t i n h = ap (take n) (drop-append-le i s t (omega arith)) ∙ take-append-le n (drop i s) t (rw (length-drop i s) (omega arith))
 
 -- a part of a part
-value-cut : (f : List ℕ) (q : Place) (x : Walked) → Inside (length (octetsAt f q)) x
+value-cut : (f : List ℕ) (q : Span) (x : Walked) → Inside (length (octetsAt f q)) x
     → octetsAt f (within (q .from) x) ≡ octetsAt (octetsAt f q) (within 0 x)
 value-cut f q walks.Ill h = refl
 value-cut f q walks.Absent h = refl
@@ -244,62 +245,62 @@ value-cut f q (walks.At i n) h =
     ∙ ap (λ (j : ℕ). take n (drop j (take (q .count) l))) (sym (zero-add i))
 
 module _ (f : List ℕ) (i : ℕ) (r : List ℕ) (e : drop i f ≡ r) where
-  rest-cut : octetsAt f (restPlace (length f) i) ≡ r
-  unfolding restPlace
+  rest-cut : octetsAt f (restSpan (length f) i) ≡ r
+  unfolding restSpan
   rest-cut = part-rest i f ∙ e
 
-  tlvs-cut : (u : Rest) → octetsAt f (tlvsIn u (restPlace (length f) i)) ≡ asTlvs u r
+  tlvs-cut : (u : Rest) → octetsAt f (tlvsIn u (restSpan (length f) i)) ≡ asTlvs u r
   unfolding tlvsIn
   tlvs-cut End = refl
   tlvs-cut Tlvs = rest-cut
   tlvs-cut Relay = rest-cut
   tlvs-cut Inner = refl
 
-  inner-cut : (u : Rest) → octetsAt f (innerIn u (restPlace (length f) i)) ≡ asInner u r
+  inner-cut : (u : Rest) → octetsAt f (innerIn u (restSpan (length f) i)) ≡ asInner u r
   unfolding innerIn
   inner-cut End = refl
   inner-cut Tlvs = refl
   inner-cut Relay = refl
   inner-cut Inner = rest-cut
 
-value-back : (f : List ℕ) (q : Place) (s : List ℕ) (tag : ℕ) → octetsAt f q ≡ s → octetsAt f (valuePlace f tag q) ≡ valueIn s tag
-unfolding valuePlace
+value-back : (f : List ℕ) (q : Span) (s : List ℕ) (tag : ℕ) → octetsAt f q ≡ s → octetsAt f (valueSpan f tag q) ≡ valueIn s tag
+unfolding valueSpan
 value-back f q s tag e =
     value-cut f q (walked (Tag tag) (octetsAt f q)) (walked-inside (Tag tag) (octetsAt f q))
     ∙ ap (λ (y : List ℕ). valueIn y tag) e
 
 -- ---- all together
 
-module _ (b : Board) (ack : Bool) (c : Command) (k r : List ℕ) (p : ProtectionTold) where
+module _ (z : Settings) (b : Board) (ack : Bool) (c : Command) (k r : List ℕ) (p : ProtectionTold) where
   -- a frame of those parts, no longer than the writer allows
-  pub frame-back : ranged c ≡ true → whole (ruleOf (kindOf c)) k r ≡ true → length (frameOf b ack c k r) ≤ longestAps
-      → allows (ruleOf (kindOf c) .under) p ≡ true → GivesBack (frameOf b ack c k r) p c k r
-  unfolding frameOf readCommand keyPlace hashPlace tlvsPlace innerPlace
+  pub frame-back : ranged c ≡ true → whole z (ruleOf (kindOf c)) k r ≡ true → length (frameOf b ack c k r) ≤ longestAps
+      → allows (ruleOf (kindOf c) .under) p ≡ true → GivesBack z (frameOf b ack c k r) p c k r
+  unfolding frameOf readCommand keySpan hashSpan tlvsSpan innerSpan
   frame-back e w l a =
       record {
         command = ap (answered f) judged ∙ ap read (fields-own x n r c k secret e);
-        key = ap (λ (v : Verdict). octetsAt f (keyPlace v)) judged ∙ key-cut f k (ruleOf (kindOf c) .secret) (secret-own x n r c k secret);
-        hash = ap (λ (v : Verdict). octetsAt f (hashPlace v)) judged
+        key = ap (λ (v : Judgement). octetsAt f (keySpan v)) judged ∙ key-cut f k (ruleOf (kindOf c) .secret) (secret-own x n r c k secret);
+        hash = ap (λ (v : Judgement). octetsAt f (hashSpan v)) judged
             ∙ hash-cut f k (ruleOf (kindOf c) .secret) (secret-own x n r c k secret);
         tlvs = tlvs-are;
-        inner = ap (λ (v : Verdict). octetsAt f (innerPlace (length f) v)) judged ∙ inner-cut f i r behind (ruleOf (kindOf c) .rest);
-        value = λ tag. value-back f (tlvsPlace (length f) (judge f p)) (asTlvs (ruleOf (kindOf c) .rest) r) tag tlvs-are;
+        inner = ap (λ (v : Judgement). octetsAt f (innerSpan (length f) v)) judged ∙ inner-cut f i r behind (ruleOf (kindOf c) .rest);
+        value = λ tag. value-back f (tlvsSpan (length f) (judge z f p)) (asTlvs (ruleOf (kindOf c) .rest) r) tag tlvs-are;
       }
     where
       x : ℕ
-      x = controlOf ack
+      x = commandControl ack
 
       n : ℕ
       n = b .aps
 
       f : List ℕ
-      f = controlOf ack ∷ b .aps ∷ (ownOctets c k ++ r)
+      f = commandControl ack ∷ b .aps ∷ (ownOctets c k ++ r)
 
       i : ℕ
       i = 2 + ruleOf (kindOf c) .size
 
       secret : length k ≡ secretSize (ruleOf (kindOf c) .secret)
-      secret = whole-secret (ruleOf (kindOf c)) k r w
+      secret = whole-secret z (ruleOf (kindOf c)) k r w
 
       own : length (ownOctets c k) ≡ ruleOf (kindOf c) .size
       own = own-length c k secret
@@ -310,12 +311,12 @@ module _ (b : Board) (ack : Bool) (c : Command) (k r : List ℕ) (p : Protection
       long : 2 + ruleOf (kindOf c) .size ≤ length f
       long = omega (arith, own, length-append (ownOctets c k) r)
 
-      fitting : fits (ruleOf (kindOf c) .rest) (drop (2 + ruleOf (kindOf c) .size) f) ≡ true
-      fitting = ap (fits (ruleOf (kindOf c) .rest)) behind ∙ whole-rest (ruleOf (kindOf c)) k r w
+      fitting : fits z (ruleOf (kindOf c) .rest) (drop (2 + ruleOf (kindOf c) .size) f) ≡ true
+      fitting = ap (fits z (ruleOf (kindOf c) .rest)) behind ∙ whole-rest z (ruleOf (kindOf c)) k r w
 
-      judged : judge f p ≡ sound (kindOf c)
+      judged : judge z f p ≡ sound (kindOf c)
       judged =
-          judge-sound f p 2 (kindOf c) (command-header f ack refl (omega (arith, long)))
+          judge-sound z f p 2 (kindOf c) (command-header f ack refl (omega (arith, long)))
           (record {
             protected = allowed-known (ruleOf (kindOf c) .under) p (rule-knows (kindOf c)) a;
             short = l;
@@ -323,14 +324,14 @@ module _ (b : Board) (ack : Bool) (c : Command) (k r : List ℕ) (p : Protection
             meets = record { sized = long; fitting = fitting; allowed = a };
           })
 
-      tlvs-are : octetsAt f (tlvsPlace (length f) (judge f p)) ≡ asTlvs (ruleOf (kindOf c) .rest) r
-      tlvs-are = ap (λ (v : Verdict). octetsAt f (tlvsPlace (length f) v)) judged ∙ tlvs-cut f i r behind (ruleOf (kindOf c) .rest)
+      tlvs-are : octetsAt f (tlvsSpan (length f) (judge z f p)) ≡ asTlvs (ruleOf (kindOf c) .rest) r
+      tlvs-are = ap (λ (v : Judgement). octetsAt f (tlvsSpan (length f) v)) judged ∙ tlvs-cut f i r behind (ruleOf (kindOf c) .rest)
 
 -- ---- what the writer answered
 
-refused-sealed : {A : Type 0} (i n : ℕ) (b d : Board) (o m : List ℕ) → framed (turnedDown i) b o ≡ framed (sealed n) d m → A
-refused-sealed i n b d o m e =
-    let g : turnedDown i ≡ sealed n = ap (λ (x : Framed). x .answer) e in
+refused-written : {A : Type 0} (i n : ℕ) (b d : Board) (o m : List ℕ) → framed (turnedDown i) b o ≡ framed (written n) d m → A
+refused-written i n b d o m e =
+    let g : turnedDown i ≡ written n = ap (λ (x : Framed). x .answer) e in
     let z : _≡_ {A = ℕ} 0 1 = cc in absurd (omega arith)
 
 lengthIn : Framed → ℕ
@@ -338,38 +339,39 @@ lengthIn x = go (x .answer)
   where
     go : FrameTold → ℕ
     go (sealed n) = n
+    go (written n) = n
     go (turnedDown n) = n
     go (opened n a g) = n
 
-module _ (b : Board) (ack : Bool) (c : Command) (k r o : List ℕ) (n : ℕ) (d : Board) (m : List ℕ) where
+module _ (z : Settings) (b : Board) (ack : Bool) (c : Command) (k r o : List ℕ) (n : ℕ) (d : Board) (m : List ℕ) where
   -- what an answer with a length tells
-  pub record Written : Type 0 where
-    pub parts : whole (ruleOf (kindOf c)) k r ≡ true
+  pub record Success : Type 0 where
+    pub parts : whole z (ruleOf (kindOf c)) k r ≡ true
     pub short : length (frameOf b ack c k r) ≤ longestAps
-    pub raised : d ≡ counted b
+    pub counter : d ≡ apsRaised b
     pub frame : take n m ≡ frameOf b ack c k r
 
-  pub written : writeCommand b ack c k r o ≡ framed (sealed n) d m → Written
+  pub write-told : writeCommand z b ack c k r o ≡ framed (written n) d m → Success
   unfolding writeCommand lengthIn
-  written =
-      choose (λ (x : Framed). x ≡ framed (sealed n) d m → Written) (ltb (length o) longestAps) _ _ (λ _ e. refused-sealed 1 n b d o m e)
-      λ _. choose (λ (x : Framed). x ≡ framed (sealed n) d m → Written) (not (whole (ruleOf (kindOf c)) k r)) _ _
-      (λ _ e. refused-sealed 11 n b d o m e)
-      λ w. choose (λ (x : Framed). x ≡ framed (sealed n) d m → Written) (ltb longestAps (length (frameOf b ack c k r))) _ _
-      (λ _ e. refused-sealed 2 n b d o m e)
+  write-told =
+      choose (λ (x : Framed). x ≡ framed (written n) d m → Success) (ltb (length o) longestAps) _ _ (λ _ e. refused-written 1 n b d o m e)
+      λ _. choose (λ (x : Framed). x ≡ framed (written n) d m → Success) (not (whole z (ruleOf (kindOf c)) k r)) _ _
+      (λ _ e. refused-written 11 n b d o m e)
+      λ w. choose (λ (x : Framed). x ≡ framed (written n) d m → Success) (ltb longestAps (length (frameOf b ack c k r))) _ _
+      (λ _ e. refused-written 2 n b d o m e)
       λ l e. let f = frameOf b ack c k r in
       record {
         parts = not-false _ w;
         short = ltb-false longestAps (length f) l;
-        raised = sym (ap (λ (x : Framed). x .board) e);
+        counter = sym (ap (λ (x : Framed). x .board) e);
         frame = ap₂ (λ (i : ℕ) (s : List ℕ). take i s) (sym (ap lengthIn e)) (sym (ap (λ (x : Framed). x .out) e))
             ∙ take-at f (drop (length f) o) (length f) refl;
       }
 
   -- where the writer answers the length n, the first n octets of the output, read under a protection that the list allows,
   -- give the command and its parts back
-  pub read-back : writeCommand b ack c k r o ≡ framed (sealed n) d m → ranged c ≡ true
-      → (p : ProtectionTold) → allows (ruleOf (kindOf c) .under) p ≡ true → GivesBack (take n m) p c k r
+  pub read-back : writeCommand z b ack c k r o ≡ framed (written n) d m → ranged c ≡ true
+      → (p : ProtectionTold) → allows (ruleOf (kindOf c) .under) p ≡ true → GivesBack z (take n m) p c k r
   read-back e g p a =
-      let w = written e in
-      subst (λ (f : List ℕ). GivesBack f p c k r) (sym (w .frame)) (frame-back b ack c k r p g (w .parts) (w .short) a)
+      let w = write-told e in
+      subst (λ (f : List ℕ). GivesBack z f p c k r) (sym (w .frame)) (frame-back z b ack c k r p g (w .parts) (w .short) a)

@@ -16,7 +16,8 @@ use Rattle.octets.proofs.Tabs.{length-tab, tab-ext, tab-add, tab-at}
 use Rattle.octets.specs.Choice.{both}
 use Rattle.octets.specs.Least.{leastFirst, numberAt, spelled}
 use Rattle.octets.specs.Lists.{at, tab, onto, Octets}
-use Rattle.answers.specs.Numbers.{ProtectionTold, sealed}
+use Rattle.settings.specs.Settings.{Settings, longestAps}
+use Rattle.answers.specs.Numbers.{ProtectionTold, written}
 use Rattle.board.specs.declared.Board.{Board}
 use Rattle.board.specs.Sending.{framed}
 use Rattle.commands.specs.declared.Command.{Command}
@@ -30,11 +31,10 @@ use Rattle.commands.specs.declared.Rest.{Rest}
 use Rattle.commands.specs.declared.Rest.the-variants.{End, Tlvs, Relay, Inner}
 use Rattle.commands.specs.Kinds.{transportOf, requestOf, listed, kindOf}
 use Rattle.commands.specs.Table.{ruleOf, secretSize, fits}
-use Rattle.frames.specs.Aps.{longestAps}
-use Rattle.commands.specs.Told.{CommandTold, toldCommand}
-use Rattle.commands.specs.Reading.{Verdict, sound, commandIn, read, readCommand}
-use Rattle.commands.specs.Parts.{octetsAt, keyIn, hashIn, keyPlace, hashPlace, restPlace, tlvsIn, innerIn, tlvsPlace, innerPlace}
-use Rattle.commands.specs.Writing.{controlOf, layoutOf, laidOut, ownOctets, frameOf, whole, counted, writeCommand}
+use Rattle.commands.specs.Numbers.{CommandTold, toldCommand}
+use Rattle.commands.specs.Reading.{Judgement, sound, commandIn, read, readCommand}
+use Rattle.commands.specs.Parts.{octetsAt, keyIn, hashIn, keySpan, hashSpan, restSpan, tlvsIn, innerIn, tlvsSpan, innerSpan}
+use Rattle.commands.specs.Writing.{commandControl, layoutOf, laidOut, ownOctets, frameOf, whole, apsRaised, writeCommand}
 use Rattle.commands.specs.Reverse.{secretRead, restRead}
 use Rattle.commands.proofs.One.{transportBack, requestBack, commandBack, command-back}
 use Rattle.commands.proofs.Bounds.{SecretIn, secret-in, part-rest}
@@ -154,8 +154,8 @@ module _ (f : List ℕ) where
       ∙ tab-ext n (at (take n f)) (at f) (λ j l. getD-take n f j 0 l)
 
   -- behind an identifier, and behind identifier and type
-  headed : (m i : ℕ) → at f 2 ≡ i → 3 + m ≤ length f → at f 0 ∷ at f 1 ∷ i ∷ tab m (λ j. at f (3 + j)) ≡ take (3 + m) f
-  headed m i e h =
+  identified : (m i : ℕ) → at f 2 ≡ i → 3 + m ≤ length f → at f 0 ∷ at f 1 ∷ i ∷ tab m (λ j. at f (3 + j)) ≡ take (3 + m) f
+  identified m i e h =
       ap (λ (y : ℕ). at f 0 ∷ at f 1 ∷ y ∷ tab m (λ j. at f (3 + j))) (sym e)
       ∙ sym (front-tab (3 + m) h ∙ tab-add 3 m (at f))
 
@@ -180,7 +180,7 @@ module _ (f : List ℕ) where
 
     -- an identifier and an address; an application link key
     addressed : (i : ℕ) → 11 ≤ length f → at f 2 ≡ i → (at f 0 ∷ at f 1 ∷ i ∷ []) ++ spelled 8 (numberAt 8 f 3) ≡ take 11 f
-    addressed i h n = ap (λ (u : List ℕ). (at f 0 ∷ at f 1 ∷ i ∷ []) ++ u) (number-tab 8 3) ∙ headed 8 i n h
+    addressed i h n = ap (λ (u : List ℕ). (at f 0 ∷ at f 1 ∷ i ∷ []) ++ u) (number-tab 8 3) ∙ identified 8 i n h
 
     application : (t : ℕ) → 29 ≤ length f → at f 2 ≡ 5 → at f 3 ≡ t
         → (at f 0 ∷ at f 1 ∷ 5 ∷ t ∷ []) ++ (take 16 (drop 4 f) ++ []) ++ spelled 8 (numberAt 8 f 20) ++ (at f 28 ∷ []) ≡ take 29 f
@@ -207,22 +207,22 @@ module _ (f : List ℕ) where
     own-read Transport3 h n = application 3 h (n .0) (n .1)
     own-read Update h n =
         ap₂ (λ (u v : List ℕ). (at f 0 ∷ at f 1 ∷ 6 ∷ []) ++ u ++ v ++ (at f 13 ∷ [])) (number-tab 8 3) (number-tab 2 11)
-        ∙ headed 11 6 n h
+        ∙ identified 11 6 n h
     own-read Remove h n = addressed 7 h n
     own-read Request2 h n =
         ap (λ (u : List ℕ). (at f 0 ∷ at f 1 ∷ 8 ∷ 2 ∷ []) ++ u) (number-tab 8 4)
         ∙ typed 8 8 2 (n .0) (n .1) h
     own-read Request4 h n = typed 0 8 4 (n .0) (n .1) h
-    own-read Switch h n = headed 1 9 n h
+    own-read Switch h n = identified 1 9 n h
     own-read Tunnel h n = addressed 14 h n
     own-read Verify h n =
         ap₂ (λ (u k : List ℕ). (at f 0 ∷ at f 1 ∷ 15 ∷ at f 3 ∷ []) ++ u ++ ([] ++ k)) (number-tab 8 4) (part-tab 12 16 (omega arith))
-        ∙ headed 25 15 n h
+        ∙ identified 25 15 n h
     own-read Confirm h n =
         ap (λ (u : List ℕ). (at f 0 ∷ at f 1 ∷ 16 ∷ at f 3 ∷ at f 4 ∷ []) ++ u) (number-tab 8 5)
-        ∙ headed 10 16 n h
-    own-read Down h n = headed 0 17 n h
-    own-read Up h n = headed 0 18 n h
+        ∙ identified 10 16 n h
+    own-read Down h n = identified 0 17 n h
+    own-read Up h n = identified 0 18 n h
 
     -- ---- the parts that are lent
 
@@ -236,68 +236,68 @@ module _ (f : List ℕ) where
     secret-whole Key n e h = keyed (omega arith)
     secret-whole Hash n e h = length-take-le 16 (drop 12 f) (rw (length-drop 12 f) (omega arith))
 
-    rest-whole : (u : Rest) (i : ℕ) → fits u (drop i f) ≡ true
-        → octetsAt f (tlvsIn u (restPlace (length f) i)) ++ octetsAt f (innerIn u (restPlace (length f) i)) ≡ drop i f
-    unfolding tlvsIn innerIn restPlace fits
-    rest-whole End i e =
-        let z : length f - i ≡ 0 = sym (length-drop i f) ∙ eqb-true (length (drop i f)) 0 e in
+    rest-whole : (z : Settings) (u : Rest) (i : ℕ) → fits z u (drop i f) ≡ true
+        → octetsAt f (tlvsIn u (restSpan (length f) i)) ++ octetsAt f (innerIn u (restSpan (length f) i)) ≡ drop i f
+    unfolding tlvsIn innerIn restSpan fits
+    rest-whole z End i e =
+        let none-left : length f - i ≡ 0 = sym (length-drop i f) ∙ eqb-true (length (drop i f)) 0 e in
         sym (drop-of-length-le f {i = i} (omega arith))
-    rest-whole Tlvs i e = nil-right (take (length f - i) (drop i f)) ∙ part-rest i f
-    rest-whole Relay i e = nil-right (take (length f - i) (drop i f)) ∙ part-rest i f
-    rest-whole Inner i e = part-rest i f
+    rest-whole z Tlvs i e = nil-right (take (length f - i) (drop i f)) ∙ part-rest i f
+    rest-whole z Relay i e = nil-right (take (length f - i) (drop i f)) ∙ part-rest i f
+    rest-whole z Inner i e = part-rest i f
 
 -- ---- all together
 
-module _ (b : Board) (ack : Bool) (c : Command) (k r o : List ℕ) (f : List ℕ) where
-  writes-frame : whole (ruleOf (kindOf c)) k r ≡ true → frameOf b ack c k r ≡ f → length f ≤ longestAps → longestAps ≤ length o
-      → writeCommand b ack c k r o ≡ framed (sealed (length f)) (counted b) (onto f o)
+module _ (z : Settings) (b : Board) (ack : Bool) (c : Command) (k r o : List ℕ) (f : List ℕ) where
+  writes-frame : whole z (ruleOf (kindOf c)) k r ≡ true → frameOf b ack c k r ≡ f → length f ≤ longestAps → longestAps ≤ length o
+      → writeCommand z b ack c k r o ≡ framed (written (length f)) (apsRaised b) (onto f o)
   unfolding writeCommand
   writes-frame w e l h = simp (le-ltb (length o) longestAps h, w, e, le-ltb longestAps (length f) l)
 
-module _ (f : List ℕ) (p : ProtectionTold) (b : Board) (ack : Bool) (o : List ℕ) where
-  again : (c : Command) (k : Kind) → toldCommand c ≡ commandIn f k → Octets f → Sound f p k → at f 0 ≡ controlOf ack → at f 1 ≡ b .aps
-      → longestAps ≤ length o
-      → writeCommand b ack c (octetsAt f (keyPlace (sound k)) ++ octetsAt f (hashPlace (sound k)))
-      (octetsAt f (tlvsPlace (length f) (sound k)) ++ octetsAt f (innerPlace (length f) (sound k))) o
-      ≡ framed (sealed (length f)) (counted b) (onto f o)
-  unfolding keyPlace hashPlace tlvsPlace innerPlace frameOf ownOctets whole
+module _ (z : Settings) (f : List ℕ) (p : ProtectionTold) (b : Board) (ack : Bool) (o : List ℕ) where
+  again : (c : Command) (k : Kind) → toldCommand c ≡ commandIn f k → Octets f → Sound z f p k → at f 0 ≡ commandControl ack
+      → at f 1 ≡ b .aps → longestAps ≤ length o
+      → writeCommand z b ack c (octetsAt f (keySpan (sound k)) ++ octetsAt f (hashSpan (sound k)))
+      (octetsAt f (tlvsSpan (length f) (sound k)) ++ octetsAt f (innerSpan (length f) (sound k))) o
+      ≡ framed (written (length f)) (apsRaised b) (onto f o)
+  unfolding keySpan hashSpan tlvsSpan innerSpan frameOf ownOctets whole
   again c k e s m x n h =
-      writes-frame b ack c (secretAt f s k) rest o f parts frame (m .short) h
+      writes-frame z b ack c (secretAt f s k) rest o f parts frame (m .short) h
     where
       i : ℕ
       i = 2 + ruleOf k .size
 
       rest : List ℕ
-      rest = octetsAt f (tlvsIn (ruleOf k .rest) (restPlace (length f) (2 + ruleOf k .size))) ++ octetsAt f
-          (innerIn (ruleOf k .rest) (restPlace (length f) (2 + ruleOf k .size)))
+      rest = octetsAt f (tlvsIn (ruleOf k .rest) (restSpan (length f) (2 + ruleOf k .size))) ++ octetsAt f
+          (innerIn (ruleOf k .rest) (restSpan (length f) (2 + ruleOf k .size)))
 
       rest-is : rest ≡ drop (2 + ruleOf k .size) f
-      rest-is = rest-whole f s (ruleOf k .rest) (2 + ruleOf k .size) (m .meets .fitting)
+      rest-is = rest-whole f s z (ruleOf k .rest) (2 + ruleOf k .size) (m .meets .fitting)
 
       kind-is : kindOf c ≡ k
       kind-is = same-kind c f k e
 
-      parts : whole (ruleOf (kindOf c)) (secretAt f s k) rest ≡ true
+      parts : whole z (ruleOf (kindOf c)) (secretAt f s k) rest ≡ true
       parts =
-          ap (λ (j : Kind). whole (ruleOf j) (secretAt f s k) rest) kind-is
+          ap (λ (j : Kind). whole z (ruleOf j) (secretAt f s k) rest) kind-is
           ∙ ap₂ both (eq-eqb (length (secretAt f s k)) (secretSize (ruleOf k .secret))
           (secret-whole f s (ruleOf k .secret) (ruleOf k .size) (secret-in k) (m .meets .sized)))
-          (ap (fits (ruleOf k .rest)) rest-is ∙ m .meets .fitting)
+          (ap (fits z (ruleOf k .rest)) rest-is ∙ m .meets .fitting)
 
-      frame : controlOf ack ∷ b .aps ∷ (ownOctets c (secretAt f s k) ++ rest) ≡ f
+      frame : commandControl ack ∷ b .aps ∷ (ownOctets c (secretAt f s k) ++ rest) ≡ f
       frame =
-          ap₂ (λ (j : Kind) (d : CommandTold). controlOf ack ∷ b .aps ∷ (laidOut (secretAt f s k) (layoutOf j) d ++ rest)) kind-is e
+          ap₂ (λ (j : Kind) (d : CommandTold). commandControl ack ∷ b .aps ∷ (laidOut (secretAt f s k) (layoutOf j) d ++ rest)) kind-is e
           ∙ ap₂ (λ (y z : ℕ). y ∷ z ∷ (laidOut (secretAt f s k) (layoutOf k) (commandIn f k) ++ rest)) (sym x) (sym n)
           ∙ ap₂ (λ (y z : List ℕ). y ++ z) (own-read f s k (m .meets .sized) (listed-named (at f 2) (at f 3) k (m .listing))) rest-is
           ∙ take-append-drop (2 + ruleOf k .size) f
 
   -- a frame f of octets that was read as the command c, written again with the parts that it gave
-  pub write-back : (c : Command) → Octets f → readCommand f p ≡ read (toldCommand c) → at f 0 ≡ controlOf ack → at f 1 ≡ b .aps
+  pub write-back : (c : Command) → Octets f → readCommand z f p ≡ read (toldCommand c) → at f 0 ≡ commandControl ack → at f 1 ≡ b .aps
       → longestAps ≤ length o
-      → writeCommand b ack c (secretRead f p) (restRead f p) o ≡ framed (sealed (length f)) (counted b) (onto f o)
+      → writeCommand z b ack c (secretRead z f p) (restRead z f p) o ≡ framed (written (length f)) (apsRaised b) (onto f o)
   write-back c s e x n h =
-      let t = read-told f p (toldCommand c) e in
-      let w = again c (t .0) (t .2) s (judge-told f p (t .0) (t .1)) x n h in
-      ap (λ (v : Verdict). writeCommand b ack c (octetsAt f (keyPlace v) ++ octetsAt f (hashPlace v))
-      (octetsAt f (tlvsPlace (length f) v) ++ octetsAt f (innerPlace (length f) v)) o) (t .1)
+      let t = read-told z f p (toldCommand c) e in
+      let w = again c (t .0) (t .2) s (judge-told z f p (t .0) (t .1)) x n h in
+      ap (λ (v : Judgement). writeCommand z b ack c (octetsAt f (keySpan v) ++ octetsAt f (hashSpan v))
+      (octetsAt f (tlvsSpan (length f) v) ++ octetsAt f (innerSpan (length f) v)) o) (t .1)
       ∙ w

@@ -8,9 +8,9 @@ use Rattle.answers.specs.Numbers.{numberOf}
 use Rattle.commands.specs.declared.Judged.{Judged}
 use Rattle.commands.specs.declared.Judged.the-variants.{Refused, Sound}
 use Rattle.commands.specs.declared.Line.{Line}
-use Rattle.commands.specs.Reading.{Verdict, refused, sound}
+use Rattle.commands.specs.Reading.{Judgement, refused, sound}
 
-abbrev pub toldJudged : Judged → Verdict
+abbrev pub toldJudged : Judged → Judgement
 toldJudged (Refused r) = refused (numberOf r)
 toldJudged (Sound k) = sound k
 

@@ -1,6 +1,6 @@
 pub mod Kinds
 pub mod Table
-pub mod Told
+pub mod Numbers
 pub mod Reading
 pub mod Parts
 pub mod Writing

@@ -12,76 +12,76 @@ use Rattle.commands.specs.declared.Secret.{Secret}
 use Rattle.commands.specs.declared.Secret.the-variants.{NoSecret, Key, Hash}
 use Rattle.commands.specs.declared.Rest.{Rest}
 use Rattle.commands.specs.declared.Rest.the-variants.{End, Tlvs, Relay, Inner}
-use Rattle.commands.specs.declared.Place.{Place}
+use Rattle.commands.specs.declared.Span.{Span}
 use Rattle.commands.specs.Table.{ruleOf, secretSize}
-use Rattle.commands.specs.Reading.{Verdict, refused, sound}
+use Rattle.commands.specs.Reading.{Judgement, refused, sound}
 use Rattle.tlvs.specs.declared.Walked.the-variants as walks
 
 -- ---- a part of the frame
 
-abbrev pub octetsAt : List ℕ → Place → List ℕ
+abbrev pub octetsAt : List ℕ → Span → List ℕ
 octetsAt s p = octetsFrom s (p .from) (p .count)
 
-abbrev pub cutAt : RefT (List ℕ) → Place → Part
+abbrev pub cutAt : RefT (List ℕ) → Span → Part
 cutAt f p = cut f (p .from) (p .count)
 
--- ---- the places
+-- ---- the spans
 
-abbrev pub place : ℕ → ℕ → Place
-place i n = record { from = i; count = n }
+abbrev pub span : ℕ → ℕ → Span
+span i n = record { from = i; count = n }
 
 -- "empty if refused or missing"
-abbrev pub nowhere : Place
-nowhere = place 0 0
+abbrev pub nowhere : Span
+nowhere = span 0 0
 
 -- a key stands behind identifier and type, a hash behind identifier, type and source
-unfoldable pub keyIn : Secret → Place
+unfoldable pub keyIn : Secret → Span
 keyIn NoSecret = nowhere
-keyIn Key = place 4 (secretSize Key)
+keyIn Key = span 4 (secretSize Key)
 keyIn Hash = nowhere
 
-unfoldable pub hashIn : Secret → Place
+unfoldable pub hashIn : Secret → Span
 hashIn NoSecret = nowhere
 hashIn Key = nowhere
-hashIn Hash = place 12 (secretSize Hash)
+hashIn Hash = span 12 (secretSize Hash)
 
-unfoldable pub keyPlace : Verdict → Place
-keyPlace (refused n) = nowhere
-keyPlace (sound k) = keyIn (ruleOf k .secret)
+unfoldable pub keySpan : Judgement → Span
+keySpan (refused n) = nowhere
+keySpan (sound k) = keyIn (ruleOf k .secret)
 
-unfoldable pub hashPlace : Verdict → Place
-hashPlace (refused n) = nowhere
-hashPlace (sound k) = hashIn (ruleOf k .secret)
+unfoldable pub hashSpan : Judgement → Span
+hashSpan (refused n) = nowhere
+hashSpan (sound k) = hashIn (ruleOf k .secret)
 
 -- all from place i on of a frame of n octets
-unfoldable pub restPlace : ℕ → ℕ → Place
-restPlace n i = place i (n - i)
+unfoldable pub restSpan : ℕ → ℕ → Span
+restSpan n i = span i (n - i)
 
-unfoldable pub tlvsIn : Rest → Place → Place
+unfoldable pub tlvsIn : Rest → Span → Span
 tlvsIn End p = nowhere
 tlvsIn Tlvs p = p
 tlvsIn Relay p = p
 tlvsIn Inner p = nowhere
 
-unfoldable pub innerIn : Rest → Place → Place
+unfoldable pub innerIn : Rest → Span → Span
 innerIn End p = nowhere
 innerIn Tlvs p = nowhere
 innerIn Relay p = nowhere
 innerIn Inner p = p
 
-unfoldable pub tlvsPlace : ℕ → Verdict → Place
-tlvsPlace n (refused m) = nowhere
-tlvsPlace n (sound k) = tlvsIn (ruleOf k .rest) (restPlace n (2 + ruleOf k .size))
+unfoldable pub tlvsSpan : ℕ → Judgement → Span
+tlvsSpan n (refused m) = nowhere
+tlvsSpan n (sound k) = tlvsIn (ruleOf k .rest) (restSpan n (2 + ruleOf k .size))
 
-unfoldable pub innerPlace : ℕ → Verdict → Place
-innerPlace n (refused m) = nowhere
-innerPlace n (sound k) = innerIn (ruleOf k .rest) (restPlace n (2 + ruleOf k .size))
+unfoldable pub innerSpan : ℕ → Judgement → Span
+innerSpan n (refused m) = nowhere
+innerSpan n (sound k) = innerIn (ruleOf k .rest) (restSpan n (2 + ruleOf k .size))
 
 -- what was found in the TLVs that stand at place i
-abbrev pub within : ℕ → Walked → Place
+abbrev pub within : ℕ → Walked → Span
 within i walks.Ill = nowhere
 within i walks.Absent = nowhere
-within i (walks.At j n) = place (i + j) n
+within i (walks.At j n) = span (i + j) n
 
-unfoldable pub valuePlace : List ℕ → ℕ → Place → Place
-valuePlace f tag p = within (p .from) (walked (Tag tag) (octetsAt f p))
+unfoldable pub valueSpan : List ℕ → ℕ → Span → Span
+valueSpan f tag p = within (p .from) (walked (Tag tag) (octetsAt f p))

@@ -12,8 +12,8 @@ use Rattle.octets.specs.Choice.{if_then_else_}
 use Rattle.octets.specs.Lists.{at}
 use Rattle.octets.specs.Least.{numberAt}
 use Rattle.answers.specs.Numbers.{numberOf, ProtectionTold}
-use Rattle.frames.specs.Aps.{longestAps}
-use Rattle.frames.specs.Reading.{readApsCommand}
+use Rattle.settings.specs.Settings.{Settings, longestAps}
+use Rattle.frames.specs.Reading.{PlainReading, headed, readingCommand}
 use Rattle.commands.specs.declared.Kind.{Kind}
 use Rattle.commands.specs.declared.Kind.the-variants.{Transport1, Transport4, Transport2, Transport3, Update, Remove, Request2, Request4, Switch, Tunnel, Verify, Confirm, Down, Up}
 use Rattle.commands.specs.declared.Listed.{Listed}
@@ -21,42 +21,41 @@ use Rattle.commands.specs.declared.Listed.the-variants.{Reserved, Is}
 use Rattle.commands.specs.declared.Reading.{Reading}
 use Rattle.commands.specs.Kinds.{listed}
 use Rattle.commands.specs.Table.{ruleOf, fits, known, allows}
-use Rattle.commands.specs.Told.{CommandTold, untyped, typed, toldCommand}
+use Rattle.commands.specs.Numbers.{CommandTold, untyped, typed, toldCommand}
 use Rattle.frames.specs.Reading as frames
 use Rattle.commands.specs.declared.Reading.the-variants as readings
 
 -- ---- the judgement
 
 -- a refusal's number, or the row of the list that the frame is of
-pub data Verdict : Type 0 where
-  refused : ℕ → Verdict
-  sound : Kind → Verdict
+pub data Judgement : Type 0 where
+  refused : ℕ → Judgement
+  sound : Kind → Judgement
 
 -- 11 for the size and what follows, then 12
-unfoldable pub judgeKind : List ℕ → ProtectionTold → Kind → Verdict
-judgeKind f p k =
+unfoldable pub judgeKind : Settings → List ℕ → ProtectionTold → Kind → Judgement
+judgeKind z f p k =
     if ltb (length f) (2 + ruleOf k .size) then refused 11
-    else (if not (fits (ruleOf k .rest) (drop (2 + ruleOf k .size) f)) then refused 11
+    else (if not (fits z (ruleOf k .rest) (drop (2 + ruleOf k .size) f)) then refused 11
     else (if not (allows (ruleOf k .under) p) then refused 12
     else sound k))
 
 -- 11 for identifier and type
-unfoldable pub judgeListed : List ℕ → ProtectionTold → Listed → Verdict
-judgeListed f p Reserved = refused 11
-judgeListed f p (Is k) = judgeKind f p k
+unfoldable pub judgeListed : Settings → List ℕ → ProtectionTold → Listed → Judgement
+judgeListed z f p Reserved = refused 11
+judgeListed z f p (Is k) = judgeKind z f p k
 
 -- 3, 4, 3, 4 for the header, which a command has of 2 octets; what is past the end reads as 0, which is reserved
-unfoldable pub judgeHeader : List ℕ → ProtectionTold → frames.Reading → Verdict
-judgeHeader f p (frames.refused n) = refused n
-judgeHeader f p (frames.plain h) = judgeListed f p (listed (at f 2) (at f 3))
-judgeHeader f p (frames.secured s) = refused 4
+unfoldable pub judgeHeader : Settings → List ℕ → ProtectionTold → PlainReading → Judgement
+judgeHeader z f p (frames.unread n) = refused n
+judgeHeader z f p (headed h) = judgeListed z f p (listed (at f 2) (at f 3))
 
 -- 14, 2
-unfoldable pub judge : List ℕ → ProtectionTold → Verdict
-judge f p =
+unfoldable pub judge : Settings → List ℕ → ProtectionTold → Judgement
+judge z f p =
     if not (known p) then refused 14
     else (if ltb longestAps (length f) then refused 2
-    else judgeHeader f p (readApsCommand f))
+    else judgeHeader z f p (readingCommand f))
 
 -- ---- the fields
 
@@ -88,9 +87,9 @@ abbrev pub toldReading : Reading → ReadTold
 toldReading (readings.Command c) = read (toldCommand c)
 toldReading (readings.Refused r) = unread (numberOf r)
 
-abbrev pub answered : List ℕ → Verdict → ReadTold
+abbrev pub answered : List ℕ → Judgement → ReadTold
 answered f (refused n) = unread n
 answered f (sound k) = read (commandIn f k)
 
-unfoldable pub readCommand : List ℕ → ProtectionTold → ReadTold
-readCommand f p = answered f (judge f p)
+unfoldable pub readCommand : Settings → List ℕ → ProtectionTold → ReadTold
+readCommand z f p = answered f (judge z f p)

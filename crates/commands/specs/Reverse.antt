@@ -8,6 +8,7 @@ use Prim.Native.Nat.{ℕ, _^_}
 use lib.Dec.{ltb}
 use lib.ListN.{length}
 use Rattle.octets.specs.Choice.{both}
+use Rattle.settings.specs.Settings.{Settings}
 use Rattle.answers.specs.Numbers.{ProtectionTold}
 use Rattle.tlvs.specs.declared.Wanted.the-variants.{Tag}
 use Rattle.tlvs.specs.Looking.{walked}
@@ -19,9 +20,9 @@ use Rattle.commands.specs.declared.Rest.{Rest}
 use Rattle.commands.specs.declared.Rest.the-variants.{End, Tlvs, Relay, Inner}
 use Rattle.commands.specs.Kinds.{kindOf}
 use Rattle.commands.specs.Table.{ruleOf}
-use Rattle.commands.specs.Told.{toldCommand}
+use Rattle.commands.specs.Numbers.{toldCommand}
 use Rattle.commands.specs.Reading.{read, judge, readCommand}
-use Rattle.commands.specs.Parts.{octetsAt, keyPlace, hashPlace, tlvsPlace, innerPlace, within, valuePlace}
+use Rattle.commands.specs.Parts.{octetsAt, keySpan, hashSpan, tlvsSpan, innerSpan, within, valueSpan}
 use Rattle.commands.specs.declared.Transported.the-variants as transports
 use Rattle.commands.specs.declared.Requested.the-variants as requests
 
@@ -79,20 +80,20 @@ abbrev pub valueIn : List ℕ → ℕ → List ℕ
 valueIn s tag = octetsAt s (within 0 (walked (Tag tag) s))
 
 -- the frame f, read under p, gives the command c and the parts k and r with which it was written
-pub record GivesBack (f : List ℕ) (p : ProtectionTold) (c : Command) (k r : List ℕ) : Type 0 where
-  pub command : readCommand f p ≡ read (toldCommand c)
-  pub key : octetsAt f (keyPlace (judge f p)) ≡ asKey (ruleOf (kindOf c) .secret) k
-  pub hash : octetsAt f (hashPlace (judge f p)) ≡ asHash (ruleOf (kindOf c) .secret) k
-  pub tlvs : octetsAt f (tlvsPlace (length f) (judge f p)) ≡ asTlvs (ruleOf (kindOf c) .rest) r
-  pub inner : octetsAt f (innerPlace (length f) (judge f p)) ≡ asInner (ruleOf (kindOf c) .rest) r
-  pub value : (tag : ℕ) → octetsAt f (valuePlace f tag (tlvsPlace (length f) (judge f p)))
+pub record GivesBack (z : Settings) (f : List ℕ) (p : ProtectionTold) (c : Command) (k r : List ℕ) : Type 0 where
+  pub command : readCommand z f p ≡ read (toldCommand c)
+  pub key : octetsAt f (keySpan (judge z f p)) ≡ asKey (ruleOf (kindOf c) .secret) k
+  pub hash : octetsAt f (hashSpan (judge z f p)) ≡ asHash (ruleOf (kindOf c) .secret) k
+  pub tlvs : octetsAt f (tlvsSpan (length f) (judge z f p)) ≡ asTlvs (ruleOf (kindOf c) .rest) r
+  pub inner : octetsAt f (innerSpan (length f) (judge z f p)) ≡ asInner (ruleOf (kindOf c) .rest) r
+  pub value : (tag : ℕ) → octetsAt f (valueSpan f tag (tlvsSpan (length f) (judge z f p)))
       ≡ valueIn (asTlvs (ruleOf (kindOf c) .rest) r) tag
 
 -- ---- write what was read
 
 -- the key or the hash, and the TLVs or the inner frame, that f gives under p; a command has one of each pair at most
-abbrev pub secretRead : List ℕ → ProtectionTold → List ℕ
-secretRead f p = octetsAt f (keyPlace (judge f p)) ++ octetsAt f (hashPlace (judge f p))
+abbrev pub secretRead : Settings → List ℕ → ProtectionTold → List ℕ
+secretRead z f p = octetsAt f (keySpan (judge z f p)) ++ octetsAt f (hashSpan (judge z f p))
 
-abbrev pub restRead : List ℕ → ProtectionTold → List ℕ
-restRead f p = octetsAt f (tlvsPlace (length f) (judge f p)) ++ octetsAt f (innerPlace (length f) (judge f p))
+abbrev pub restRead : Settings → List ℕ → ProtectionTold → List ℕ
+restRead z f p = octetsAt f (tlvsSpan (length f) (judge z f p)) ++ octetsAt f (innerSpan (length f) (judge z f p))

@@ -8,7 +8,7 @@ use lib.Dec.{eqb, leb}
 use lib.ListN.{length}
 use Rattle.octets.specs.Choice.{if_then_else_}
 use Rattle.answers.specs.Numbers.{ProtectionTold, clear, under}
-use Rattle.frames.specs.Security.{tagOctets}
+use Rattle.settings.specs.Settings.{Settings, apsAux}
 use Rattle.tlvs.specs.Looking.{fills, relays}
 use Rattle.commands.specs.declared.Kind.{Kind}
 use Rattle.commands.specs.declared.Kind.the-variants.{Transport1, Transport4, Transport2, Transport3, Update, Remove, Request2, Request4, Switch, Tunnel, Verify, Confirm, Down, Up}
@@ -48,15 +48,15 @@ ruleOf Up = row 1 NoSecret Relay (ClearOr 0)
 -- ---- the size
 
 -- the least frame inside a Tunnel: header, auxiliary header, one octet and the tag
-abbrev pub leastInner : ℕ
-leastInner = 2 + 13 + 1 + tagOctets
+abbrev pub leastInner : Settings → ℕ
+leastInner z = 2 + apsAux + 1 + z .tag
 
 -- what may follow: of a frame that is read, all that is left; of a command that is written, the part lent
-unfoldable pub fits : Rest → List ℕ → Bool
-fits End s = eqb (length s) 0
-fits Tlvs s = fills s
-fits Relay s = relays s
-fits Inner s = leb leastInner (length s)
+unfoldable pub fits : Settings → Rest → List ℕ → Bool
+fits z End s = eqb (length s) 0
+fits z Tlvs s = fills s
+fits z Relay s = relays s
+fits z Inner s = leb (leastInner z) (length s)
 
 abbrev pub secretSize : Secret → ℕ
 secretSize NoSecret = 0

@@ -10,7 +10,8 @@ use lib.ListN.{length}
 use Rattle.octets.specs.Choice.{if_then_else_, both}
 use Rattle.octets.specs.Lists.{onto}
 use Rattle.octets.specs.Least.{spelled}
-use Rattle.answers.specs.Numbers.{sealed, turnedDown}
+use Rattle.settings.specs.Settings.{Settings, longestAps}
+use Rattle.answers.specs.Numbers.{written, turnedDown}
 use Rattle.board.specs.declared.Board.{Board}
 use Rattle.board.specs.Sending.{Framed, framed}
 use Rattle.commands.specs.declared.Command.{Command}
@@ -19,14 +20,13 @@ use Rattle.commands.specs.declared.Kind.the-variants.{Transport1, Transp
 use Rattle.commands.specs.declared.Rule.{Rule}
 use Rattle.commands.specs.Kinds.{kindOf}
 use Rattle.commands.specs.Table.{ruleOf, fits, secretSize}
-use Rattle.commands.specs.Told.{CommandTold, untyped, typed, toldCommand}
-use Rattle.frames.specs.Aps.{longestAps}
+use Rattle.commands.specs.Numbers.{CommandTold, untyped, typed, toldCommand}
 
 -- ---- the frame
 
-abbrev pub controlOf : Bool → ℕ
-controlOf true = 0x41
-controlOf false = 0x01
+abbrev pub commandControl : Bool → ℕ
+commandControl true = 0x41
+commandControl false = 0x01
 
 -- a field of a command: the sixteen octets of key or hash, an octet, or a number of that many octets
 pub data Field : Type 0 where
@@ -70,13 +70,13 @@ ownOctets c k = laidOut k (layoutOf (kindOf c)) (toldCommand c)
 
 -- control, counter and the command, with what follows
 unfoldable pub frameOf : Board → Bool → Command → List ℕ → List ℕ → List ℕ
-frameOf b ack c k r = controlOf ack ∷ b .aps ∷ (ownOctets c k ++ r)
+frameOf b ack c k r = commandControl ack ∷ b .aps ∷ (ownOctets c k ++ r)
 
 -- ---- the judgement
 
 -- 11: the parts lent, k and what follows, are those that a command of that rule has; a part that it lacks is lent empty
-unfoldable pub whole : Rule → List ℕ → List ℕ → Bool
-whole u k r = both (eqb (length k) (secretSize (u .secret))) (fits (u .rest) r)
+unfoldable pub whole : Settings → Rule → List ℕ → List ℕ → Bool
+whole z u k r = both (eqb (length k) (secretSize (u .secret))) (fits z (u .rest) r)
 
 abbrev pub withAps : Board → ℕ → Board
 withAps b n =
@@ -90,12 +90,12 @@ withAps b n =
     }
 
 -- "after 255 comes 0"
-unfoldable pub counted : Board → Board
-counted b = withAps b ((b .aps + 1) % 256)
+unfoldable pub apsRaised : Board → Board
+apsRaised b = withAps b ((b .aps + 1) % 256)
 
-unfoldable pub writeCommand : Board → Bool → Command → List ℕ → List ℕ → List ℕ → Framed
-writeCommand b ack c k r o =
+unfoldable pub writeCommand : Settings → Board → Bool → Command → List ℕ → List ℕ → List ℕ → Framed
+writeCommand z b ack c k r o =
     if ltb (length o) longestAps then framed (turnedDown 1) b o
-    else (if not (whole (ruleOf (kindOf c)) k r) then framed (turnedDown 11) b o
+    else (if not (whole z (ruleOf (kindOf c)) k r) then framed (turnedDown 11) b o
     else (if ltb longestAps (length (frameOf b ack c k r)) then framed (turnedDown 2) b o
-    else framed (sealed (length (frameOf b ack c k r))) (counted b) (onto (frameOf b ack c k r) o)))
+    else framed (written (length (frameOf b ack c k r))) (apsRaised b) (onto (frameOf b ack c k r) o)))

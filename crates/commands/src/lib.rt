@@ -7,6 +7,8 @@ mod table;
 mod writer;
 
 use answers::Refusal;
+use answers::Written;
+use board::Board;
 pub use parts::hash_of;
 pub use parts::inner_of;
 pub use parts::key_of;
@@ -58,6 +60,12 @@ pub enum Requested {
 pub enum Reading {
     Command(Command),
     Refused(Refusal),
+}
+
+// What the writer answers, and the board that it leaves.
+pub struct Wrote {
+    pub answer: Written,
+    pub board: Board,
 }
 
 // A command without its numbers: a row of 01's list, by identifier and inner type.
@@ -120,7 +128,7 @@ enum Judged {
 }
 
 // A part of a frame.
-pub(crate) struct Place {
+pub(crate) struct Span {
     pub from: usize,
     pub count: usize,
 }

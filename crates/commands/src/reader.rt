@@ -10,10 +10,11 @@ use crate::kinds;
 use crate::table;
 use answers::Guard;
 use answers::Refusal;
-use frames::Read;
+use frames::PlainRead;
 ghost use mathlib.Core.Path.{_≡_};
+ghost use Rattle.settings.specs.Settings.{ours};
 ghost use Rattle.answers.specs.Numbers.{protectionOf};
-ghost use Rattle.commands.specs.Told.{toldCommand};
+ghost use Rattle.commands.specs.Numbers.{toldCommand};
 ghost use Rattle.commands.specs.Reading.{judgeKind, judgeListed, judge, commandIn, toldReading, readCommand};
 ghost use Rattle.commands.specs.Code.{toldJudged};
 ghost use Rattle.commands.specs.Kinds.{listed};
@@ -23,7 +24,7 @@ ghost use Rattle.commands.specs.declared.Transported.{Transported};
 
 // 11 and 12 of a kind that the list has.
 fn judge_kind(f: &[u8], p: Guard, k: Kind) -> Judged
-    ensures { λ r. ⌜ toldJudged r ≡ judgeKind (now (f .entry)) (protectionOf p) k ⌝ }
+    ensures { λ r. ⌜ toldJudged r ≡ judgeKind ours (now (f .entry)) (protectionOf p) k ⌝ }
 {
     let rule = table::rule_of(k);
     let end = 2 + rule.size;
@@ -43,7 +44,7 @@ fn judge_kind(f: &[u8], p: Guard, k: Kind) -> Judged
 
 // The identifier; a frame that ends before it, or before its type, has 0 there, which is reserved.
 fn judge_listed(f: &[u8], p: Guard) -> Judged
-    ensures { λ r. ⌜ toldJudged r ≡ judgeListed (now (f .entry)) (protectionOf p) (listed (at (now (f .entry)) 2) (at (now (f .entry)) 3)) ⌝ }
+    ensures { λ r. ⌜ toldJudged r ≡ judgeListed ours (now (f .entry)) (protectionOf p) (listed (at (now (f .entry)) 2) (at (now (f .entry)) 3)) ⌝ }
 {
     match kinds::find_kind(octets::octet(f, 2), octets::octet(f, 3)) {
         Listed::Reserved => Judged::Refused(Refusal::Command),
@@ -52,18 +53,17 @@ fn judge_listed(f: &[u8], p: Guard) -> Judged
 }
 
 pub(crate) fn judge_frame(f: &[u8], p: Guard) -> Judged
-    ensures { λ r. ⌜ toldJudged r ≡ judge (now (f .entry)) (protectionOf p) ⌝ }
+    ensures { λ r. ⌜ toldJudged r ≡ judge ours (now (f .entry)) (protectionOf p) ⌝ }
 {
     if !table::is_known(p) {
         return Judged::Refused(Refusal::Argument);
     }
-    if 108 < f.len() {
+    if settings::LONGEST_APS < f.len() {
         return Judged::Refused(Refusal::Long);
     }
-    match frames::read_aps_command(f) {
-        Read::Refused(r) => Judged::Refused(r),
-        Read::Secured(_) => Judged::Refused(Refusal::Form),
-        Read::Plain(_) => judge_listed(f, p),
+    match frames::read_command(f) {
+        PlainRead::Refused(r) => Judged::Refused(r),
+        PlainRead::Header(_) => judge_listed(f, p),
     }
 }
 
@@ -116,12 +116,12 @@ fn fields_of(f: &[u8], k: Kind) -> Command
     }
 }
 
-// Reads the command of a plain APS frame that came under protection p.
-pub fn read_command(f: &[u8], p: Guard) -> Reading
-    ensures { λ r. ⌜ toldReading r ≡ readCommand (now (f .entry)) (protectionOf p) ⌝ }
+// Reads the command of a plain APS frame that came under that protection.
+pub fn read_command(frame: &[u8], protection: Guard) -> Reading
+    ensures { λ r. ⌜ toldReading r ≡ readCommand ours (now (frame .entry)) (protectionOf protection) ⌝ }
 {
-    match judge_frame(f, p) {
+    match judge_frame(frame, protection) {
         Judged::Refused(r) => Reading::Refused(r),
-        Judged::Sound(k) => Reading::Command(fields_of(f, k)),
+        Judged::Sound(k) => Reading::Command(fields_of(frame, k)),
     }
 }

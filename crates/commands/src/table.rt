@@ -6,9 +6,13 @@ use crate::Rule;
 use crate::Secret;
 use answers::Guard;
 ghost use mathlib.Core.Path.{_≡_};
+ghost use Rattle.settings.specs.Settings.{ours};
 ghost use Rattle.answers.specs.Numbers.{protectionOf};
 ghost use Rattle.commands.specs.Table.{ruleOf, known, allows, fits, secretSize};
 ghost use Rattle.commands.specs.Table.{row as Table·row};
+
+// The octets of the least frame inside a Tunnel: header, auxiliary header, one octet and the tag.
+const LEAST_INNER: usize = 2 + settings::APS_AUX + 1 + settings::TAG;
 
 fn row(size: usize, secret: Secret, rest: Rest, under: Allowed) -> Rule
     ensures { λ r. ⌜ r ≡ Table·row size secret rest under ⌝ }
@@ -78,13 +82,13 @@ pub(crate) fn is_allowed(u: Allowed, p: Guard) -> bool
 
 // Whether s may follow a command's own octets.
 pub(crate) fn fits_rest(rest: Rest, s: &[u8]) -> bool
-    ensures { λ r. ⌜ r ≡ fits rest (now (s .entry)) ⌝ }
+    ensures { λ r. ⌜ r ≡ fits ours rest (now (s .entry)) ⌝ }
 {
     match rest {
         Rest::End => s.len() == 0,
         Rest::Tlvs => tlvs::fills(s),
         Rest::Relay => tlvs::relays(s),
-        Rest::Inner => 20 <= s.len(),
+        Rest::Inner => LEAST_INNER <= s.len(),
     }
 }
 

@@ -4,25 +4,28 @@ use crate::Line;
 use crate::Requested;
 use crate::Rule;
 use crate::Transported;
+use crate::Wrote;
 use crate::kinds;
 use crate::table;
 use answers::Refusal;
-use answers::Sealed;
+use answers::Written;
 use board::Board;
-use board::Sent;
 ghost use mathlib.Core.Path.{_≡_};
 ghost use mathlib.Core.List.{[], _∷_, _++_};
 ghost use Prim.Native.Nat.{_+_, _≤_};
 ghost use lib.ListN.{length};
 ghost use Rattle.octets.specs.Least.{spelled};
 ghost use Rattle.octets.specs.Lists.{onto};
-ghost use Rattle.answers.specs.Numbers.{toldSealed, turnedDown, numberOf};
+ghost use Rattle.settings.specs.Settings.{ours};
+ghost use Rattle.answers.specs.Numbers.{toldWritten, turnedDown, numberOf};
 ghost use Rattle.board.specs.Sending.{framed};
 ghost use Rattle.commands.specs.Table.{ruleOf, secretSize};
 ghost use Rattle.commands.specs.Kinds.{kindOf};
-ghost use Rattle.commands.specs.Writing.{controlOf, ownOctets, whole, writeCommand};
+ghost use Rattle.commands.specs.Writing.{commandControl, ownOctets, whole, apsRaised, writeCommand};
 ghost use Rattle.commands.specs.Code.{lined};
-ghost use Rattle.commands.specs.Writing.{counted as Writing·counted};
+
+// What a header of two octets leaves of the longest frame.
+const LONGEST_COMMAND: usize = settings::LONGEST_APS - 2;
 
 // ---- octets one behind another
 
@@ -136,15 +139,15 @@ fn own_octets(c: Command, secret: &[u8]) -> Line
 
 // ---- the whole frame
 
-fn control_of(ack: bool) -> u8
-    ensures { λ r. ⌜ r ≡ controlOf ack ⌝ }
+fn command_control(ack: bool) -> u8
+    ensures { λ r. ⌜ r ≡ commandControl ack ⌝ }
 {
     if ack { 0x41 } else { 0x01 }
 }
 
 // "after 255 comes 0"
-fn counted(b: Board) -> Board
-    ensures { λ r. ⌜ r ≡ Writing·counted b ⌝ }
+fn aps_raised(b: Board) -> Board
+    ensures { λ r. ⌜ r ≡ apsRaised b ⌝ }
 {
     let mut next = b;
     next.aps = std::num::wrapping_add_u8(b.aps, 1);
@@ -153,7 +156,7 @@ fn counted(b: Board) -> Board
 
 // Whether the parts lent are those that a command of that rule has.
 fn is_whole(rule: Rule, secret: &[u8], rest: &[u8]) -> bool
-    ensures { λ r. ⌜ r ≡ whole rule (now (secret .entry)) (now (rest .entry)) ⌝ }
+    ensures { λ r. ⌜ r ≡ whole ours rule (now (secret .entry)) (now (rest .entry)) ⌝ }
 {
     let s = rule.secret;
     if secret.len() != table::secret_size(s) {
@@ -178,12 +181,12 @@ fn lay(control: u8, counter: u8, own: Line, rest: &[u8], out: &mut [u8]) -> usiz
 }
 
 // A refusal, which leaves the board as it stood.
-fn refuse(why: Refusal, b: Board) -> Sent
-    ensures { λ r. ⌜ (toldSealed (r .answer) ≡ turnedDown (numberOf why)) × (r .board ≡ b) ⌝ }
+fn refuse(why: Refusal, board: Board) -> Wrote
+    ensures { λ r. ⌜ (toldWritten (r .answer) ≡ turnedDown (numberOf why)) × (r .board ≡ board) ⌝ }
 {
-    Sent {
-        answer: Sealed::Refused(why),
-        board: b,
+    Wrote {
+        answer: Written::Refused(why),
+        board,
     }
 }
 
@@ -191,30 +194,30 @@ fn refuse(why: Refusal, b: Board) -> Sent
 // of out, stamped with the APS counter, which is then raised. A refusal leaves the board and out as
 // they stood.
 pub fn write_command(
-    b: Board,
+    board: Board,
     ack: bool,
-    c: Command,
+    command: Command,
     secret: &[u8],
     rest: &[u8],
     out: &mut [u8],
-) -> Sent
-    ensures { λ r. ⌜ framed (toldSealed (r .answer)) (r .board) (now (out .exit)) ≡ writeCommand b ack c (now (secret .entry)) (now (rest .entry)) (now (out .entry)) ⌝ }
+) -> Wrote
+    ensures { λ r. ⌜ framed (toldWritten (r .answer)) (r .board) (now (out .exit)) ≡ writeCommand ours board ack command (now (secret .entry)) (now (rest .entry)) (now (out .entry)) ⌝ }
 {
-    if out.len() < 108 {
-        return refuse(Refusal::Room, b);
+    if out.len() < settings::LONGEST_APS {
+        return refuse(Refusal::Room, board);
     }
-    let rule = table::rule_of(kinds::kind_of(c));
+    let rule = table::rule_of(kinds::kind_of(command));
     if !is_whole(rule, secret, rest) {
-        return refuse(Refusal::Command, b);
+        return refuse(Refusal::Command, board);
     }
-    if 106 - rule.size < rest.len() {
-        return refuse(Refusal::Long, b);
+    if LONGEST_COMMAND - rule.size < rest.len() {
+        return refuse(Refusal::Long, board);
     }
-    let own = own_octets(c, secret);
-    let next = counted(b);
-    let n = lay(control_of(ack), b.aps, own, rest, out);
-    Sent {
-        answer: Sealed::Frame(n),
+    let own = own_octets(command, secret);
+    let next = aps_raised(board);
+    let n = lay(command_control(ack), board.aps, own, rest, out);
+    Wrote {
+        answer: Written::Frame(n),
         board: next,
     }
 }

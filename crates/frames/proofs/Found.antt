@@ -76,7 +76,8 @@ module _ (z : Settings) (l : Layer) (f : List ℕ) (h a : ℕ) where
 
   -- what holds of each way out holds of reading
   ways : (P : Reading → Type 0) → P (refused 3) → P (refused 5)
-      → (suits l (at f h) ≡ true → h + auxLength (at f h) + z .tag ≤ length f → noAddress (senderOf f h a) ≡ false → P (secured (announced f h a)))
+      → (suits l (at f h) ≡ true → h + auxLength (at f h) + z .tag ≤ length f → noAddress (senderOf f h a) ≡ false
+      → P (secured (announced f h a)))
       → P (readSecured z l f h a)
   unfolding readSecured
   ways P p q r =
@@ -104,11 +105,13 @@ module _ (f : List ℕ) (h : ℕ) where
   plain-behind : (n : ℕ) → readPlain f h ≡ plain n → (n ≡ h) × (h ≤ length f)
   unfolding readPlain
   plain-behind n =
-      choose (λ r. r ≡ plain n → (n ≡ h) × (h ≤ length f)) (ltb (length f) h) _ _ (λ _ e. refused-plain 3 n e) (λ t e. (cc, ltb-false _ _ t))
+      choose (λ r. r ≡ plain n → (n ≡ h) × (h ≤ length f)) (ltb (length f) h) _ _ (λ _ e. refused-plain 3 n e)
+      (λ t e. (cc, ltb-false _ _ t))
 
   headed-behind : (n : ℕ) → (if ltb (length f) h then unread 3 else headed h) ≡ headed n → (n ≡ h) × (h ≤ length f)
   headed-behind n =
-      choose (λ r. r ≡ headed n → (n ≡ h) × (h ≤ length f)) (ltb (length f) h) _ _ (λ _ e. unread-headed 3 n e) (λ t e. (cc, ltb-false _ _ t))
+      choose (λ r. r ≡ headed n → (n ≡ h) × (h ≤ length f)) (ltb (length f) h) _ _ (λ _ e. unread-headed 3 n e)
+      (λ t e. (cc, ltb-false _ _ t))
 
 -- ---- the whole frame
 

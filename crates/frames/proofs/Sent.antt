@@ -63,7 +63,8 @@ module _ (p t : List ℕ) (h k n s : ℕ) (e : length p ≡ h) where
     unfolding announced
     announced-there a b d = simp (control-there, counter-there b, sender-there a d, sequence-there)
 
-    read-sent : (z : Settings) (l : Layer) (a : ℕ) → suits l (wireControl k) ≡ true → n < 2 ^ 32 → s < 2 ^ 64 → noAddress s ≡ false → auxLength (wireControl k) + z .tag ≤ 13 + length t
+    read-sent : (z : Settings) (l : Layer) (a : ℕ) → suits l (wireControl k) ≡ true → n < 2 ^ 32 → s < 2 ^ 64
+        → noAddress s ≡ false → auxLength (wireControl k) + z .tag ≤ 13 + length t
         → readSecured z l (p ++ sent k n s t) h a
         ≡ secured (fieldsOf h (auxLength (wireControl k)) (wireControl k) n s (numberSent k t))
     unfolding readSecured
@@ -129,7 +130,8 @@ module _ (k n s q : ℕ) where
       go false = refl
 
   module _ (p c : List ℕ) (h : ℕ) (e : length p ≡ h) where
-    pub read-aux : (z : Settings) (l : Layer) (a : ℕ) → k < 4 → suits l (wireControl k) ≡ true → n < 2 ^ 32 → s < 2 ^ 64 → noAddress s ≡ false → z .tag ≤ length c
+    pub read-aux : (z : Settings) (l : Layer) (a : ℕ) → k < 4 → suits l (wireControl k) ≡ true → n < 2 ^ 32 → s < 2 ^ 64
+        → noAddress s ≡ false → z .tag ≤ length c
         → readSecured z l (p ++ (auxiliary k n s q ++ c)) h a
         ≡ secured (fieldsOf h (length (auxiliary k n s q)) (wireControl k) n s (if eqb k 1 then q else 0))
     read-aux z l a k< v b d u w =

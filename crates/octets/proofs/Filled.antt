@@ -22,7 +22,11 @@ module _ {A : Type 0} (n : ℕ) (d : A) (f : ℕ → A) where
 
   pub more : (i : ℕ) (t : List A) (v : A) → Filled n d f i t → i < n → v ≡ f i → Filled n d f (i + 1) (set t i v)
   more i t v w h e =
-      record { within = omega arith; long = length-set t i v ∙ w .long; upto = λ k b. ⊎-elim (last k) (before k) (eq-or-lt-of-le (below k b)) }
+      record {
+        within = omega arith;
+        long = length-set t i v ∙ w .long;
+        upto = λ k b. ⊎-elim (last k) (before k) (eq-or-lt-of-le (below k b));
+      }
     where
       below : (k : ℕ) → k < i + 1 → k ≤ i
       below k b = omega arith

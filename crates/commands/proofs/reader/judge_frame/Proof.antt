@@ -1,7 +1,7 @@
 use mathlib.Core.Path.{sym, ap, _∙_}
 use borrow.Author.Tests.{lt-ltb, le-ltb, not-true, not-false}
 use borrow.Author.Needs.{needs}
-use Rattle.frames.specs.Reading.{toldRead}
+use Rattle.frames.specs.Reading.{toldPlain}
 use Rattle.commands.specs.Reading.{judge, judgeHeader}
 use Rattle.commands.proofs.reader.judge_frame.Statement.{statement}
 use Rattle.commands.proofs.reader.judge_frame.Tie as tie
@@ -17,8 +17,8 @@ returns-2 : tie.Need-returns-2
 unfolding judge judgeHeader
 returns-2 c = simp (lt-ltb _ _ (c .if2 .taken), sym (c .before .before .is-known .ensures) ∙ not-false _ (c .before .if1 .left))
 
-read-aps-command-requires : tie.Need-read-aps-command-requires
-read-aps-command-requires c κs = search needs
+read-command-requires : tie.Need-read-command-requires
+read-command-requires c κs = search needs
 
 enum-known-r : tie.Need-enum-known-r
 enum-known-r c = search needs
@@ -26,20 +26,17 @@ enum-known-r c = search needs
 enum-told : tie.Need-enum-told
 enum-told c = search needs
 
-enum-told-2 : tie.Need-enum-told-2
-enum-told-2 c = search needs
-
 judge-listed-requires : tie.Need-judge-listed-requires
 judge-listed-requires c κs = search needs
 
 returns-3 : tie.Need-returns-3
 unfolding judge judgeHeader
 returns-3 c =
-    let after-read-aps-command : tie.After-read-aps-command = search in
+    let after-read-command : tie.After-read-command = search in
     let else2 : tie.Else2 = search in
     let else1 : tie.Else1 = search in
     simp (
-      sym (after-read-aps-command .read-aps-command .ensures) ∙ ap toldRead (c .before .r .given .1),
+      sym (after-read-command .read-command .ensures) ∙ ap toldPlain (c .before .r .given .1),
       le-ltb _ _ (else2 .if2 .left),
       sym (else1 .before .is-known .ensures) ∙ not-false _ (else1 .if1 .left),
     )
@@ -47,24 +44,12 @@ returns-3 c =
 returns-4 : tie.Need-returns-4
 unfolding judge judgeHeader
 returns-4 c =
-    let after-read-aps-command : tie.After-read-aps-command = search in
-    let else2 : tie.Else2 = search in
-    let else1 : tie.Else1 = search in
-    simp (
-      sym (after-read-aps-command .read-aps-command .ensures) ∙ ap toldRead (c .enum-told .given .1),
-      le-ltb _ _ (else2 .if2 .left),
-      sym (else1 .before .is-known .ensures) ∙ not-false _ (else1 .if1 .left),
-    )
-
-returns-5 : tie.Need-returns-5
-unfolding judge judgeHeader
-returns-5 c =
-    let after-read-aps-command : tie.After-read-aps-command = search in
+    let after-read-command : tie.After-read-command = search in
     let else2 : tie.Else2 = search in
     let else1 : tie.Else1 = search in
     simp (
       c .judge-listed .ensures,
-      sym (after-read-aps-command .read-aps-command .ensures) ∙ ap toldRead (c .before .enum-told2 .given .1),
+      sym (after-read-command .read-command .ensures) ∙ ap toldPlain (c .before .enum-told .given .1),
       le-ltb _ _ (else2 .if2 .left),
       sym (else1 .before .is-known .ensures) ∙ not-false _ (else1 .if1 .left),
     )
@@ -76,11 +61,9 @@ judge-frame-spec =
     is-known-requires
     returns
     returns-2
-    read-aps-command-requires
+    read-command-requires
     enum-known-r
     enum-told
-    enum-told-2
     judge-listed-requires
     returns-3
-    returns-4
-    returns-5)
+    returns-4)

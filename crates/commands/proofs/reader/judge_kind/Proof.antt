@@ -38,7 +38,7 @@ returns-2 c =
     let after-rule-of : tie.After-rule-of = search in
     let start : tie.Start = search in
     simp (
-      rest-fits _ (2 + after-rule-of .rule-of .result .size) (start .args .f .now) _ (c .before .fits-rest .ensures) ∙ not-true _
+      rest-fits _ _ (2 + after-rule-of .rule-of .result .size) (start .args .f .now) _ (c .before .fits-rest .ensures) ∙ not-true _
           (c .if2 .taken),
       le-ltb _ _ (else1 .if1 .left),
       ← after-rule-of .rule-of .ensures,
@@ -56,7 +56,7 @@ returns-3 c =
     let start : tie.Start = search in
     simp (
       sym (c .before .is-allowed .ensures) ∙ not-true _ (c .if3 .taken),
-      rest-fits _ (2 + after-rule-of .rule-of .result .size) (start .args .f .now) _ (else2 .before .fits-rest .ensures) ∙ not-false _
+      rest-fits _ _ (2 + after-rule-of .rule-of .result .size) (start .args .f .now) _ (else2 .before .fits-rest .ensures) ∙ not-false _
           (else2 .if2 .left),
       le-ltb _ _ (else1 .if1 .left),
       ← after-rule-of .rule-of .ensures,
@@ -71,7 +71,7 @@ returns-4 c =
     let start : tie.Start = search in
     simp (
       sym (c .before .is-allowed .ensures) ∙ not-false _ (c .if3 .left),
-      rest-fits _ (2 + after-rule-of .rule-of .result .size) (start .args .f .now) _ (else2 .before .fits-rest .ensures) ∙ not-false _
+      rest-fits _ _ (2 + after-rule-of .rule-of .result .size) (start .args .f .now) _ (else2 .before .fits-rest .ensures) ∙ not-false _
           (else2 .if2 .left),
       le-ltb _ _ (else1 .if1 .left),
       ← after-rule-of .rule-of .ensures,

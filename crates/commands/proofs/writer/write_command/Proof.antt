@@ -3,6 +3,7 @@ use mathlib.Core.Bool.{true}
 use native.Mathlib.Omega.{arith}
 use borrow.Author.Needs.{needs}
 use borrow.Author.Tests.{not-true, not-false}
+use Rattle.settings.specs.Settings.{ours}
 use Rattle.commands.specs.declared.Rule.{Rule}
 use Rattle.commands.specs.Table.{ruleOf}
 use Rattle.commands.specs.Kinds.{kindOf}
@@ -15,7 +16,7 @@ refuse-requires : tie.Need-refuse-requires
 refuse-requires c κs = search needs
 
 returns : tie.Need-returns
-returns c = frame-up _ (c .refuse .ensures .0) (c .refuse .ensures .1) ∙ refuses-room _ _ _ _ _ _ (c .before .if1 .taken)
+returns c = frame-up _ (c .refuse .ensures .0) (c .refuse .ensures .1) ∙ refuses-room _ _ _ _ _ _ _ (c .before .if1 .taken)
 
 kind-of-requires : tie.Need-kind-of-requires
 kind-of-requires c κs = search needs
@@ -35,7 +36,7 @@ returns-2 c =
     let after-rule-of : tie.After-rule-of = search in
     let after-kind-of : tie.After-kind-of = search in
     let else1 : tie.Else1 = search in
-    frame-up _ (c .refuse2 .ensures .0) (c .refuse2 .ensures .1) ∙ refuses-parts _ _ _ _ _ _ _
+    frame-up _ (c .refuse2 .ensures .0) (c .refuse2 .ensures .1) ∙ refuses-parts _ _ _ _ _ _ _ _
     (after-rule-of .rule-of .ensures ∙ ap ruleOf (after-kind-of .kind-of .ensures)) (else1 .if1 .left)
     (sym (then2 .before .is-whole .ensures) ∙ not-true _ (then2 .if2 .taken))
 
@@ -54,12 +55,12 @@ returns-3 c =
     let after-rule-of : tie.After-rule-of = search in
     let after-kind-of : tie.After-kind-of = search in
     let else1 : tie.Else1 = search in
-    frame-up _ (c .refuse3 .ensures .0) (c .refuse3 .ensures .1) ∙ refuses-long _ _ _ _ _ _ _
+    frame-up _ (c .refuse3 .ensures .0) (c .refuse3 .ensures .1) ∙ refuses-long _ _ _ _ _ _ _ _
     (after-rule-of .rule-of .ensures ∙ ap ruleOf (after-kind-of .kind-of .ensures)) (else1 .if1 .left)
     (sym (else2 .before .is-whole .ensures) ∙ not-false _ (else2 .if2 .left)) (c .before .if3 .taken)
 
-control-of-requires : tie.Need-control-of-requires
-control-of-requires c κs = search needs
+command-control-requires : tie.Need-command-control-requires
+command-control-requires c κs = search needs
 
 own-octets-requires : tie.Need-own-octets-requires
 own-octets-requires c κs =
@@ -67,7 +68,7 @@ own-octets-requires c κs =
     let after-rule-of : tie.After-rule-of = search in
     let after-kind-of : tie.After-kind-of = search in
     let start : tie.Start = search in
-    lent-secret (start .args .b) true (start .args .c) _ _ (start .args .out .now) _
+    lent-secret ours (start .args .board) true (start .args .command) _ _ (start .args .out .now) _
     (after-rule-of .rule-of .ensures ∙ ap ruleOf (after-kind-of .kind-of .ensures))
     (sym (else2 .before .is-whole .ensures) ∙ not-false _ (else2 .if2 .left))
 
@@ -81,11 +82,11 @@ lay-requires c κs =
     let start : tie.Start = search in
     let n = after-own-octets .own-octets .ensures in
     let s = ap (λ (r : Rule). r .size) (after-rule-of .rule-of .ensures ∙ ap ruleOf (after-kind-of .kind-of .ensures)) in
-    let m = size-most (kindOf (start .args .c)) in
+    let m = size-most (kindOf (start .args .command)) in
     (omega (arith, n .0, m), n .1, omega (arith, n .0, s, m, else3 .if3 .left, else1 .if1 .left))
 
-counted-requires : tie.Need-counted-requires
-counted-requires c κs = search needs
+aps-raised-requires : tie.Need-aps-raised-requires
+aps-raised-requires c κs = search needs
 
 same-length : tie.Need-same-length
 same-length c = search needs
@@ -93,8 +94,8 @@ same-length c = search needs
 returns-4 : tie.Need-returns-4
 returns-4 c =
     let after-lay : tie.After-lay = search in
-    let after-control-of : tie.After-control-of = search in
-    let after-counted : tie.After-counted = search in
+    let after-command-control : tie.After-command-control = search in
+    let after-aps-raised : tie.After-aps-raised = search in
     let after-own-octets : tie.After-own-octets = search in
     let else3 : tie.Else3 = search in
     let else2 : tie.Else2 = search in
@@ -102,10 +103,10 @@ returns-4 c =
     let after-kind-of : tie.After-kind-of = search in
     let else1 : tie.Else1 = search in
     let n = after-own-octets .own-octets .ensures in
-    writes _ _ _ _ _ _ _ (after-rule-of .rule-of .ensures ∙ ap ruleOf (after-kind-of .kind-of .ensures)) (else1 .if1 .left)
+    writes _ _ _ _ _ _ _ _ (after-rule-of .rule-of .ensures ∙ ap ruleOf (after-kind-of .kind-of .ensures)) (else1 .if1 .left)
     (sym (else2 .before .is-whole .ensures) ∙ not-false _ (else2 .if2 .left)) (else3 .if3 .left) _ (after-own-octets .own-octets .result) _
     _ _
-    (after-control-of .control-of .ensures) (n .0) (n .2) (after-lay .lay .ensures .0) (after-counted .counted .ensures)
+    (after-command-control .command-control .ensures) (n .0) (n .2) (after-lay .lay .ensures .0) (after-aps-raised .aps-raised .ensures)
     (after-lay .lay .ensures .1)
 
 pub write-command-spec : {M : Type 1} → statement M
@@ -123,8 +124,8 @@ write-command-spec =
     refuse-requires-3
     returns-3
     own-octets-requires
-    counted-requires
-    control-of-requires
+    aps-raised-requires
+    command-control-requires
     lay-requires
     same-length
     returns-4)

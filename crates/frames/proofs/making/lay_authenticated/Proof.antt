@@ -24,7 +24,8 @@ returns c =
     let after-lay : tie.After-lay = search in
     let after-with-level : tie.After-with-level = search in
     let after-octet : tie.After-octet = search in
-    laid-over _ _ _ _ _ _ _ _ (withLevel ours) (after-lay .lay .ensures) refl (after-with-level .with-level .ensures) (after-octet .octet .ensures)
+    laid-over _ _ _ _ _ _ _ _ (withLevel ours) (after-lay .lay .ensures) refl (after-with-level .with-level .ensures)
+    (after-octet .octet .ensures)
 
 pub lay-authenticated-spec : {M : Type 1} → statement M
 lay-authenticated-spec =

@@ -28,7 +28,12 @@ returns c =
     let then1 : tie.Then1 = search in
     let read : tie.After-h = search in
     let called : tie.After-read-header = search in
-    simp (sym (called .read-header .ensures) ∙ ap toldHeading (read .h .given .1), then1 .if1 .taken, ← given .given-to .ensures) (c .secured-behind .ensures)
+    simp (
+      sym (called .read-header .ensures) ∙ ap toldHeading (read .h .given .1),
+      then1 .if1 .taken,
+      ← given .given-to .ensures,
+    )
+    (c .secured-behind .ensures)
 
 plain-behind-requires : tie.Need-plain-behind-requires
 plain-behind-requires c κs = search needs

@@ -2,8 +2,8 @@ use mathlib.Core.Path.{_∙_}
 use native.Mathlib.Omega.{arith}
 use borrow.Author.Needs.{needs}
 use Rattle.commands.proofs.Bounds.{value-at, found-holds}
-use Rattle.commands.proofs.parts.value_place.Statement.{statement}
-use Rattle.commands.proofs.parts.value_place.Tie as tie
+use Rattle.commands.proofs.parts.value_span.Statement.{statement}
+use Rattle.commands.proofs.parts.value_span.Tie as tie
 
 add-e : tie.Need-add-e
 add-e c = search needs
@@ -41,7 +41,7 @@ add-t14 c =
     let start : tie.Start = search in
     omega (
       arith,
-      found-holds (start .args .f .now) (start .args .tag) (start .args .place) _ (after-first-of .first-of .ensures) (start .pre) _ _
+      found-holds (start .args .f .now) (start .args .tag) (start .args .span) _ (after-first-of .first-of .ensures) (start .pre) _ _
           (c .before .i .given .1),
     )
 
@@ -49,24 +49,24 @@ returns : tie.Need-returns
 returns c =
     let after-first-of : tie.After-first-of = search in
     let start : tie.Start = search in
-    c .nowhere .ensures ∙ value-at (start .args .f .now) (start .args .tag) (start .args .place) _ (after-first-of .first-of .ensures) _
+    c .nowhere .ensures ∙ value-at (start .args .f .now) (start .args .tag) (start .args .span) _ (after-first-of .first-of .ensures) _
     (c .before .enum-told .given .1)
 
 returns-2 : tie.Need-returns-2
 returns-2 c =
     let after-first-of : tie.After-first-of = search in
     let start : tie.Start = search in
-    c .nowhere2 .ensures ∙ value-at (start .args .f .now) (start .args .tag) (start .args .place) _ (after-first-of .first-of .ensures) _
+    c .nowhere2 .ensures ∙ value-at (start .args .f .now) (start .args .tag) (start .args .span) _ (after-first-of .first-of .ensures) _
     (c .before .enum-told2 .given .1)
 
 returns-3 : tie.Need-returns-3
 returns-3 c =
     let after-first-of : tie.After-first-of = search in
     let start : tie.Start = search in
-    value-at (start .args .f .now) (start .args .tag) (start .args .place) _ (after-first-of .first-of .ensures) _ (c .before .i .given .1)
+    value-at (start .args .f .now) (start .args .tag) (start .args .span) _ (after-first-of .first-of .ensures) _ (c .before .i .given .1)
 
-pub value-place-spec : {M : Type 1} → statement M
-value-place-spec =
+pub value-span-spec : {M : Type 1} → statement M
+value-span-spec =
     tie.close
     (tie.spec
     add-e

@@ -1,7 +1,7 @@
 use borrow.Author.Needs.{needs}
-use Rattle.commands.specs.Parts.{hashPlace}
-use Rattle.commands.proofs.parts.hash_place.Statement.{statement}
-use Rattle.commands.proofs.parts.hash_place.Tie as tie
+use Rattle.commands.specs.Parts.{keySpan}
+use Rattle.commands.proofs.parts.key_span.Statement.{statement}
+use Rattle.commands.proofs.parts.key_span.Tie as tie
 
 enum-told : tie.Need-enum-told
 enum-told c = search needs
@@ -15,25 +15,25 @@ enum-known-v c = search needs
 rule-of-requires : tie.Need-rule-of-requires
 rule-of-requires c κs = search needs
 
-hash-in-requires : tie.Need-hash-in-requires
-hash-in-requires c κs = search needs
+key-in-requires : tie.Need-key-in-requires
+key-in-requires c κs = search needs
 
 returns : tie.Need-returns
-unfolding hashPlace
+unfolding keySpan
 returns c = simp (c .nowhere .ensures, c .before .enum-told .given .1)
 
 returns-2 : tie.Need-returns-2
-unfolding hashPlace
-returns-2 c = simp (c .hash-in .ensures, ← c .before .rule-of .ensures, c .before .before .before .v .given .1)
+unfolding keySpan
+returns-2 c = simp (c .key-in .ensures, ← c .before .rule-of .ensures, c .before .before .before .v .given .1)
 
-pub hash-place-spec : {M : Type 1} → statement M
-hash-place-spec =
+pub key-span-spec : {M : Type 1} → statement M
+key-span-spec =
     tie.close
     (tie.spec
     enum-told
     nowhere-requires
     enum-known-v
     rule-of-requires
-    hash-in-requires
+    key-in-requires
     returns
     returns-2)
