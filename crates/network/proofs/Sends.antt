@@ -1,49 +1,62 @@
 -- Sealing under a slot's key, of what its calls answered.
 -- Assumes nothing.
-use mathlib.Core.Path.{_≡_, sym, ap, ap₂, _∙_}
+use mathlib.Core.Path.{_≡_, sym, ap, _∙_}
 use mathlib.Core.List.{List}
-use Prim.Native.Nat.{ℕ, _+_, _≤_}
+use Prim.Native.Nat.{ℕ, _≤_}
 use native.Mathlib.Omega.{arith}
 use lib.ListN.{length}
-use borrow.Author.Tests.{eq-eqb, ne-eqb}
-use Rattle.network.specs.Sealing.{overhead, sealedUnder}
-use Rattle.answers.specs.Numbers.{sealed, turnedDown}
+use Rattle.settings.specs.Settings.{Settings, longest, longestPlain}
+use Rattle.octets.specs.Keys.{theKey}
+use Rattle.octets.specs.Lists.{onto}
+use Rattle.network.specs.Sealing.{identifier, sealedUnder}
+use Rattle.answers.specs.Numbers.{Told, done, refused, sealed, turnedDown}
+use Rattle.cipher.specs.Answers.{product}
+use Rattle.cipher.proofs.Opens.{tag-most}
 use Rattle.frames.specs.declared.Layer.the-variants.{Network}
-use Rattle.frames.specs.Reading.{plain, readNetworkPlain}
+use Rattle.frames.specs.Reading.{headed, readingPlain}
 use Rattle.frames.proofs.Found.{plain-to-seal}
 use Rattle.board.specs.declared.Board.{Board}
+use Rattle.board.specs.declared.Sending.{Sending}
 use Rattle.board.specs.declared.Slot.{Slot}
-use Rattle.board.specs.Sending.{top, raised, withOutgoing, spent, framed}
-use Rattle.seals.specs.declared.Sealed.{Sealed}
-use Rattle.seals.specs.declared.Sealed.the-variants.{Octets}
-use Rattle.seals.specs.Sealing.{sentOctets, sealing, toldSealed, gave as Seals·gave}
-use Rattle.seals.proofs.Securing.{Sealable}
+use Rattle.board.specs.Sending.{raised, withOutgoing, spent, framed, sendingOf, maySend, send}
+use Rattle.board.proofs.Sends.{send-refused, send-done}
+use Rattle.seals.specs.declared.Enclosed.{Enclosed}
+use Rattle.seals.specs.declared.Enclosed.the-variants.{Octets}
+use Rattle.seals.specs.Sealing.{Fair, sentOctets, sealedFrame, sealing, toldEnclosed}
+use Rattle.seals.proofs.Securing.{Sealable, sealed-length}
 use Rattle.seals.proofs.Tells.{sealed-tells}
 
-pub sealable-net : (f : List ℕ) (h : ℕ) → 2 ≤ h → h ≤ length f → length f ≤ 98 → Sealable 1 f h
+pub sealable-net : (z : Settings) → Fair z → (f : List ℕ) (h : ℕ) → 2 ≤ h → h ≤ length f → length f ≤ longestPlain z
+    → Sealable z identifier f h
 unfolding sentOctets
-sealable-net f h a b c = record { headed = a; within = b; short = omega arith }
+sealable-net z fair f h a b c =
+    record { headed = a; within = b; short = let m = tag-most (z .tag) (fair .tag) in omega arith }
 
 -- a board that has this counter and this address, whatever else
-module _ (n own : ℕ) (s : Slot) (f : List ℕ) (h : ℕ) (o : List ℕ) where
-  pub top-slot : n ≡ top → (b : Board) → b .outgoing ≡ n → b .own ≡ own
-      → framed (turnedDown 7) b o ≡ sealedUnder b f o h s
-  unfolding sealedUnder
-  top-slot q b en eo = simp (eq-eqb _ _ (en ∙ q))
+module _ (z : Settings) (n : Sending) (s : Slot) (f : List ℕ) (h : ℕ) (o : List ℕ) where
+  abbrev frame : List ℕ
+  frame = sealedFrame z (theKey (s .key)) Network identifier (n .counter) (n .own) (s .seq) f h
 
-  pub sealed-slot : 2 ≤ h → h ≤ length f → length f ≤ 98 → 116 ≤ length o → (n ≡ top → ⊥) → (w : Sealed) (m : ℕ) (p : List ℕ) → w ≡ Octets m
-      → Seals·gave (toldSealed w) p ≡ sealing (s .key) Network 1 n own (s .seq) f h o → (b : Board) → b .outgoing ≡ n → b .own ≡ own
-      → framed (sealed m) (withOutgoing b (raised (b .outgoing))) p ≡ sealedUnder b f o h s
-  unfolding sealedUnder sentOctets spent
-  sealed-slot h2 hf h98 room nt w m p ew e b en eo =
-      let d = e ∙ sym (ap₂ (λ (x y : ℕ). sealing (s .key) Network 1 x y (s .seq) f h o) en eo) in
-      let x = sealable-net f h h2 hf h98 in
-      let t = sealed-tells (s .key) Network 1 (b .outgoing) (b .own) (s .seq) f h o (omega arith) x room w m p ew d in
-      let c : m ≡ length f + overhead = omega (arith, t .0) in
-      ap (λ (x : ℕ). framed (sealed x) (spent b) p) c
-      ∙ ap (framed (sealed (length f + overhead)) (spent b)) (t .1)
-      ∙ simp (ne-eqb _ _ (λ q. nt (sym en ∙ q)))
+  sends : (b : Board) → sendingOf b ≡ n → send b frame o ≡ sealedUnder z b f o h s
+  unfolding sealedUnder
+  sends b e =
+      ap (λ (x : Sending). send b (sealedFrame z (theKey (s .key)) Network identifier (x .counter) (x .own) (s .seq) f h) o) (sym e)
+
+  pub refused-slot : (m : ℕ) → maySend n ≡ refused m → (b : Board) → sendingOf b ≡ n → framed (turnedDown m) b o ≡ sealedUnder z b f o h s
+  refused-slot m q b e = send-refused n b e frame o m q ∙ sends b e
+
+  pub sealed-slot : Sealable z identifier f h → longest ≤ length o → maySend n ≡ done → (w : Enclosed) (m : ℕ) (p : List ℕ) → w ≡ Octets m
+      → product (toldEnclosed w) p ≡ sealing z (theKey (s .key)) Network identifier (n .counter) (n .own) (s .seq) f h o
+      → (b : Board) → sendingOf b ≡ n → framed (sealed m) (withOutgoing b (raised (b .outgoing))) p ≡ sealedUnder z b f o h s
+  unfolding spent
+  sealed-slot x room q w m p ew d b e =
+      let t = sealed-tells z (theKey (s .key)) Network identifier (n .counter) (n .own) (s .seq) f h o (omega arith) x room w m p ew d in
+      let c = sealed-length z (theKey (s .key)) Network identifier (n .counter) (n .own) (s .seq) f h (x .within) in
+      ap (λ (u : ℕ). framed (sealed u) (spent b) p) (t .0 ∙ sym c)
+      ∙ ap (framed (sealed (length frame)) (spent b)) (t .1)
+      ∙ send-done n b e frame o q
+      ∙ sends b e
 
 -- a plain frame has its header, and more than the control field in it
-pub plain-bounds : (f : List ℕ) (h : ℕ) → readNetworkPlain f ≡ plain h → (2 ≤ h) × (h ≤ length f)
+pub plain-bounds : (f : List ℕ) (h : ℕ) → readingPlain Network f ≡ headed h → (2 ≤ h) × (h ≤ length f)
 plain-bounds f h e = let w = plain-to-seal Network f h e in (let a = w .least in omega arith, w .within)
