@@ -1,3 +1,4 @@
 pub mod Admission
 pub mod Sends
+pub mod Ways
 pub mod RoundTrip

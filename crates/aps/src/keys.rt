@@ -3,6 +3,7 @@ use board::Link;
 use frames::Secured;
 ghost use mathlib.Core.Path.{_≡_};
 ghost use mathlib.Core.List.{_∷_, []};
+ghost use Rattle.octets.specs.Keys.{theKey};
 ghost use Rattle.cipher.specs.Hash.{keyedHash};
 ghost use Rattle.frames.specs.Security.{identifierOf};
 ghost use Rattle.aps.specs.Keys.{keyFor};
@@ -10,7 +11,7 @@ ghost use Rattle.aps.specs.Opening.{keyNamed};
 
 // The key that an identifier of 0, 2 or 3 names.
 pub(crate) fn key_for(key: [u8; 16], identifier: u8) -> [u8; 16]
-    ensures { λ r. ⌜ r ≡ keyFor key identifier ⌝ }
+    ensures { λ r. ⌜ theKey r ≡ keyFor (theKey key) identifier ⌝ }
 {
     if identifier == 0 {
         return key;
@@ -38,7 +39,7 @@ pub(crate) fn identifier(s: Secured) -> u8
 
 // The key of an entry that a secured frame names.
 pub(crate) fn key_named(l: Link, s: Secured) -> [u8; 16]
-    ensures { λ r. ⌜ r ≡ keyNamed l s ⌝ }
+    ensures { λ r. ⌜ theKey r ≡ keyNamed l s ⌝ }
 {
     let key = l.key;
     key_for(key, identifier(s))

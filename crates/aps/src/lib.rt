@@ -11,7 +11,7 @@ pub use opening::open_frame;
 pub use sealing::seal_frame;
 
 // What opening answers, and the board that it leaves.
-pub struct After {
+pub struct Received {
     pub answer: Opened,
     pub board: Board,
 }

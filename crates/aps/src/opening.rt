@@ -1,5 +1,5 @@
 // Opening, in document 01's order of judgement.
-use crate::After;
+use crate::Received;
 use crate::keys::identifier;
 use crate::keys::key_named;
 use answers::Guard;
@@ -12,72 +12,87 @@ use frames::Layer;
 use frames::Read;
 use frames::Secured;
 use seals::Unsealed;
+use settings::LONGEST;
+use settings::LONGEST_APS;
+use settings::TOP;
 ghost use mathlib.Core.Path.{_≡_};
 ghost use mathlib.Core.Bool.{true};
 ghost use Prim.Native.Nat.{ℕ, _≤_, _<_};
 ghost use lib.ListN.{length};
-ghost use Rattle.answers.specs.Numbers.{toldOpened, turnedDown, numberOf};
+ghost use Rattle.settings.specs.Settings.{ours, longest, top};
+ghost use Rattle.answers.specs.Numbers.{toldOpened};
 ghost use Rattle.board.specs.State.{linkAt};
 ghost use Rattle.board.specs.Requests.{linkOf};
+ghost use Rattle.board.specs.Sending.{framed};
 ghost use Rattle.seals.specs.Sealing.{messageOf, sound};
-ghost use Rattle.aps.specs.Opening.{gave, keyNamed, admitted, openedUnder, openedKeyed, openAps};
-ghost use Rattle.aps.specs.Code.{floored};
+ghost use Rattle.aps.specs.Opening.{keyNamed, admitted, openedUnder, openedKeyed, openAps};
+ghost use Rattle.aps.specs.Code.{linked};
 
-// What opening answers, and the entry whose floor it moves, if any. The stages below have what they
-// read of the board, not the board: each that had it would hold a copy while the cipher works.
+// What opening answers, the entry that it changes, if any, and what then stands there. The stages
+// below have what they read of the board, not the board: each that had it would hold a copy while
+// the cipher works.
 struct Heard {
     answer: Opened,
     entry: Place,
-    floor: u32,
+    link: Link,
 }
 
-fn down(why: Refusal) -> Heard
-    ensures { λ r. ⌜ (toldOpened (r .answer) ≡ turnedDown (numberOf why)) × (r .entry ≡ Place.Absent) ⌝ }
+// An answer that changes no entry.
+fn unmoved(answer: Opened) -> Heard
+    ensures { λ r. ⌜ (r .answer ≡ answer) × (r .entry ≡ Place.Absent) ⌝ }
 {
-    Heard {
-        answer: Opened::Refused(why),
-        entry: Place::Absent,
+    let link = Link {
+        present: false,
+        partner: 0,
+        key: [0u8; 16],
         floor: 0,
+    };
+    Heard {
+        answer,
+        entry: Place::Absent,
+        link,
     }
 }
 
 // The tag is judged before the floor is touched.
 fn admit(l: Link, i: usize, f: &[u8], s: Secured, out: &mut [u8]) -> Heard
-    requires { ⌜ (sound (now f) s ≡ true) × ((116 ≤ length (now out)) × ((s .counter < 4294967295) × (i < 8))) ⌝ }
-    ensures { λ r. ⌜ ((b : Board) → gave (toldOpened (r .answer)) (floored b (r .entry) (r .floor)) (now (out .exit)) ≡ admitted b (now (f .entry)) s (now (out .entry)) i (messageOf (keyNamed l s) (now (f .entry)) s)) ⌝ }
+    requires { ⌜ (sound ours (now f) s ≡ true) × ((longest ≤ length (now out)) × ((s .counter < top) × (i < 8))) ⌝ }
+    ensures { λ r. ⌜ ((b : Board) → linkAt (b .links) i ≡ l → framed (toldOpened (r .answer)) (linked b (r .entry) (r .link)) (now (out .exit)) ≡ admitted b (now (f .entry)) s (now (out .entry)) i (messageOf ours (keyNamed l s) (now (f .entry)) s)) ⌝ }
     ensures { λ r. ⌜ ((j : ℕ) → r .entry ≡ Place.At j → j < 8) ⌝ }
 {
     match seals::unseal(key_named(l, s), Layer::Aps, f, s, out) {
         Unsealed::Plain(n) => {
             let guard = Guard::Under(identifier(s));
             let answer = Opened::Frame(n, s.sender, guard);
+            let mut link = l;
+            link.floor = s.counter + 1;
             Heard {
                 answer,
                 entry: Place::At(i),
-                floor: s.counter + 1,
+                link,
             }
         }
-        Unsealed::Forged => down(Refusal::Forged),
+        Unsealed::Forged => unmoved(Opened::Refused(Refusal::Forged)),
     }
 }
 
 fn open_under(l: Link, i: usize, f: &[u8], s: Secured, out: &mut [u8]) -> Heard
-    requires { ⌜ (sound (now f) s ≡ true) × ((116 ≤ length (now out)) × (i < 8)) ⌝ }
-    ensures { λ r. ⌜ ((b : Board) → linkAt (b .links) i ≡ l → gave (toldOpened (r .answer)) (floored b (r .entry) (r .floor)) (now (out .exit)) ≡ openedUnder b (now (f .entry)) s (now (out .entry)) i) ⌝ }
+    requires { ⌜ (sound ours (now f) s ≡ true) × ((longest ≤ length (now out)) × (i < 8)) ⌝ }
+    ensures { λ r. ⌜ ((b : Board) → linkAt (b .links) i ≡ l → framed (toldOpened (r .answer)) (linked b (r .entry) (r .link)) (now (out .exit)) ≡ openedUnder ours b (now (f .entry)) s (now (out .entry)) i) ⌝ }
     ensures { λ r. ⌜ ((j : ℕ) → r .entry ≡ Place.At j → j < 8) ⌝ }
 {
-    if s.counter == 4294967295 {
-        return down(Refusal::Top);
+    if s.counter == TOP {
+        return unmoved(Opened::Refused(Refusal::Top));
     }
     if s.counter < l.floor {
-        return down(Refusal::Stale);
+        return unmoved(Opened::Refused(Refusal::Stale));
     }
     admit(l, i, f, s, out)
 }
 
 fn open_keyed(links: [Link; 8], f: &[u8], s: Secured, out: &mut [u8]) -> Heard
-    requires { ⌜ (sound (now f) s ≡ true) × (116 ≤ length (now out)) ⌝ }
-    ensures { λ r. ⌜ ((b : Board) → b .links ≡ links → gave (toldOpened (r .answer)) (floored b (r .entry) (r .floor)) (now (out .exit)) ≡ openedKeyed b (now (f .entry)) s (now (out .entry)) (linkOf (b .links) (s .sender))) ⌝ }
+    requires { ⌜ (sound ours (now f) s ≡ true) × (longest ≤ length (now out)) ⌝ }
+    ensures { λ r. ⌜ ((b : Board) → b .links ≡ links → framed (toldOpened (r .answer)) (linked b (r .entry) (r .link)) (now (out .exit)) ≡ openedKeyed ours b (now (f .entry)) s (now (out .entry)) (linkOf (b .links) (s .sender))) ⌝ }
     ensures { λ r. ⌜ ((j : ℕ) → r .entry ≡ Place.At j → j < 8) ⌝ }
 {
     match board::link_of(links, s.sender) {
@@ -85,30 +100,25 @@ fn open_keyed(links: [Link; 8], f: &[u8], s: Secured, out: &mut [u8]) -> Heard
             let l = links[i];
             open_under(l, i, f, s, out)
         }
-        Place::Absent => down(Refusal::NoKey),
+        Place::Absent => unmoved(Opened::Refused(Refusal::NoKey)),
     }
 }
 
 fn open_read(links: [Link; 8], f: &[u8], given: u64, out: &mut [u8]) -> Heard
-    ensures { λ r. ⌜ ((b : Board) → b .links ≡ links → gave (toldOpened (r .answer)) (floored b (r .entry) (r .floor)) (now (out .exit)) ≡ openAps b (now (f .entry)) given (now (out .entry))) ⌝ }
+    ensures { λ r. ⌜ ((b : Board) → b .links ≡ links → framed (toldOpened (r .answer)) (linked b (r .entry) (r .link)) (now (out .exit)) ≡ openAps ours b (now (f .entry)) given (now (out .entry))) ⌝ }
     ensures { λ r. ⌜ ((j : ℕ) → r .entry ≡ Place.At j → j < 8) ⌝ }
 {
-    if out.len() < 116 {
-        return down(Refusal::Room);
+    if out.len() < LONGEST {
+        return unmoved(Opened::Refused(Refusal::Room));
     }
-    if 108 < f.len() {
-        return down(Refusal::Long);
+    if LONGEST_APS < f.len() {
+        return unmoved(Opened::Refused(Refusal::Long));
     }
-    match frames::read_aps(f, given) {
-        Read::Refused(r) => down(r),
+    match frames::read_frame(Layer::Aps, f, given) {
+        Read::Refused(r) => unmoved(Opened::Refused(r)),
         Read::Plain(_) => {
             octets::paste_at(out, 0, f);
-            let answer = Opened::Frame(f.len(), 0, Guard::Clear);
-            Heard {
-                answer,
-                entry: Place::Absent,
-                floor: 0,
-            }
+            unmoved(Opened::Frame(f.len(), 0, Guard::Clear))
         }
         Read::Secured(s) => open_keyed(links, f, s, out),
     }
@@ -116,24 +126,23 @@ fn open_read(links: [Link; 8], f: &[u8], given: u64, out: &mut [u8]) -> Heard
 
 // Opens an APS frame; given is its sender where it carries none. The plain frame stands at the start
 // of out. A refusal leaves the board and out as they stood.
-pub fn open_frame(b: Board, f: &[u8], given: u64, out: &mut [u8]) -> After
-    ensures { λ r. ⌜ gave (toldOpened (r .answer)) (r .board) (now (out .exit)) ≡ openAps b (now (f .entry)) given (now (out .entry)) ⌝ }
+pub fn open_frame(board: Board, frame: &[u8], given: u64, out: &mut [u8]) -> Received
+    ensures { λ r. ⌜ framed (toldOpened (r .answer)) (r .board) (now (out .exit)) ≡ openAps ours board (now (frame .entry)) given (now (out .entry)) ⌝ }
 {
     // Made before the stages run: made behind them, it would be a second copy on the stack.
-    let mut next = b;
-    let links = b.links;
-    let heard = open_read(links, f, given, out);
+    let mut next = board;
+    let links = board.links;
+    let heard = open_read(links, frame, given, out);
     let answer = heard.answer;
-    let moved = heard.entry;
-    match moved {
+    let entry = heard.entry;
+    match entry {
         Place::At(i) => {
-            let mut l = next.links[i];
-            l.floor = heard.floor;
-            next.links[i] = l;
+            let link = heard.link;
+            next.links[i] = link;
         }
         Place::Absent => {}
     }
-    After {
+    Received {
         answer,
         board: next,
     }
