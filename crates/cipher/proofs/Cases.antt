@@ -1,4 +1,4 @@
--- M2 to M8 of document 01.
+-- M2 to M8 of document 01 hold of the definitions, for any octets: CCM*'s first blocks, the octets that lead, the hash's padding.
 -- Assumes nothing.
 use mathlib.Core.Path.{_≡_, refl, ap, ap₂, _∙_}
 use mathlib.Core.List.{_∷_, [], _++_}

@@ -1,4 +1,4 @@
--- Laws of a chain that takes in one block after the other, and of CCM*'s.
+-- A chain over a string takes in its first block and then the rest; so the calls of CCM*'s loops, in their order, make the CBC-MAC.
 -- Assumes nothing.
 use mathlib.Core.Path.{_≡_, refl, sym, ap, _∙_}
 use mathlib.Core.List.{List, [], _∷_, _++_}

@@ -1,4 +1,4 @@
--- Opening, of what its calls answered; and the bounds that a tag's length has.
+-- What the calls of `open_with` answered tells whether the tag fits, and what is then left; and an allowed tag has at most 16 octets.
 -- Assumes nothing.
 use mathlib.Core.Path.{_≡_, refl, sym, ap, ap₂, _∙_}
 use mathlib.Core.Bool.{Bool, true, false}

@@ -1,4 +1,4 @@
--- Laws of the hash's padding: what stands at each place, and how long it is.
+-- The hash's padding: what stands at each place, how long it is, and that a first block of 16 octets can be taken in before the rest.
 -- Assumes nothing.
 use mathlib.Core.Path.{_≡_, refl, sym, ap, ap₂, _∙_}
 use mathlib.Core.Bool.{Bool, true, false}

@@ -1,4 +1,4 @@
--- Laws of octet strings parsed into blocks of 16.
+-- A string parsed into blocks of 16 is the block at its start and the blocks of what is behind it; an empty one has none.
 -- Assumes nothing.
 use mathlib.Core.Path.{_≡_, refl, sym, ap, ap₂, _∙_}
 use mathlib.Core.List.{List, [], _∷_}

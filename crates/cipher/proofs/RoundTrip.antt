@@ -1,4 +1,4 @@
--- Opening undoes sealing, for every key, nonce, authenticated octets, message and length of tag: the law that the frame work cites.
+-- Opening undoes sealing, for any key, nonce, octets and tag of up to 16 octets; and what opens to a message is what sealing it gives.
 -- Assumes nothing.
 use mathlib.Core.Path.{_≡_, refl, sym, ap, ap₂, _∙_}
 use mathlib.Core.Bool.{Bool, true, false}

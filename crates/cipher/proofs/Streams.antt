@@ -1,4 +1,4 @@
--- Laws of CCM*'s key stream, laid over a string block by block.
+-- CCM*'s key stream, laid over a string block by block, enciphers each of its octets; with the masked tag behind, that is sealing.
 -- Assumes nothing.
 use mathlib.Core.Path.{_≡_, sym, ap, ap₂, _∙_}
 use mathlib.Core.List.{List, _++_}

@@ -1,4 +1,4 @@
--- Lists whose every element is an octet, and what keeps them so.
+-- Lists whose every element is an octet stay so when joined or cut; so are zeros, and what is made place by place of octets.
 -- Assumes nothing.
 use mathlib.Core.Path.{_≡_, refl}
 use mathlib.Core.Bool.{Bool, true, false}

@@ -1,4 +1,4 @@
--- Laws of choosing, and the tests that a return of a function that branches is answered by.
+-- Both tests pass where each does, a choice goes by its test, and `tests` turns what is known of numbers into what a test answers.
 -- Assumes nothing.
 use mathlib.Core.Path.{_≡_, refl}
 use mathlib.Core.Bool.{Bool, true, false}

@@ -1,4 +1,4 @@
--- Laws of comparing lists, and of a loop that compares without leaving early.
+-- `eqList` tells equal lists from all others; and a loop that gathers what is apart, without leaving early, tells the same.
 -- Assumes nothing.
 use mathlib.Core.Path.{_≡_, refl, sym, ap, ap₂, _∙_}
 use mathlib.Core.Bool.{Bool, true, false}

@@ -1,4 +1,4 @@
--- A loop that fills a list of n octets from the front with the values of f: what it has done when it reaches place i.
+-- A loop that fills a list of n places from the front with the values of f: those below i stand when it reaches i, in the end all.
 -- Assumes nothing.
 use mathlib.Core.Path.{_≡_, sym, _∙_}
 use mathlib.Core.Logic.{⊎-elim}

@@ -1,4 +1,4 @@
--- Laws of laying one list into another.
+-- A list laid into another octet by octet is what `pasted` says where it fits, whole or in part; where not, `pasted` changes nothing.
 -- Assumes nothing.
 use mathlib.Core.Path.{_≡_, ap, ap₂, _∙_}
 use mathlib.Core.List.{List, _++_}

@@ -1,4 +1,4 @@
--- Laws of `tab`, the list of a function's first values, and of `onto`.
+-- `tab`, the list of a function's first values: how long it is, what stands where, how it is cut, joined and laid; `onto`'s length.
 -- Assumes nothing.
 use mathlib.Core.Path.{_≡_, refl, sym, ap, ap₂, _∙_}
 use mathlib.Core.List.{List, _∷_, _++_}

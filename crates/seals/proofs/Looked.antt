@@ -1,4 +1,4 @@
--- What unsealing tells, and the look that asks no more than that.
+-- Whether unsealing makes a frame is what `looking` says, whatever the layer and whatever the output, if it has room.
 -- Assumes nothing.
 use mathlib.Core.Path.{_≡_, refl, ap, _∙_}
 use mathlib.Core.Bool.{Bool, true, false}

@@ -1,4 +1,4 @@
--- Opening a secured frame, of what its calls answered.
+-- The calls of `unseal_sound` do what `unsealing` says: the cipher is asked what it asks, and the header goes before the message.
 -- Assumes nothing.
 use mathlib.Core.Path.{_≡_, refl, sym, ap, ap₂, _∙_}
 use mathlib.Core.Bool.{Bool, true, false}

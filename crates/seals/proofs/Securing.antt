@@ -1,4 +1,4 @@
--- Sealing a plain frame, of what its calls answered.
+-- The calls of `seal_sound` do what `sealing` says: both headers are laid, and the cipher is asked what it asks and does not refuse.
 -- Assumes nothing.
 use mathlib.Core.Path.{_≡_, sym, ap, ap₂, _∙_}
 use mathlib.Core.Bool.{true}

@@ -1,4 +1,4 @@
--- What unsealing and sealing tell: the laws that both layers go by.
+-- Unsealing a sound frame tells whether its tag fits and what was laid; sealing a sealable one always makes the secured frame.
 -- Assumes nothing.
 use mathlib.Core.Path.{_≡_, refl, sym, ap, _∙_}
 use mathlib.Core.Bool.{true}

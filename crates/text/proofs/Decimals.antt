@@ -1,4 +1,4 @@
--- Laws of decimals: of a number that has a limit, and of the fewest digits that hold a number.
+-- A number passes just where it is within its limit; and the fewest digits that hold a number are its decimal.
 -- Assumes nothing.
 use mathlib.Core.Path.{_≡_, ap}
 use mathlib.Core.List.{List, [], _∷_, _++_}

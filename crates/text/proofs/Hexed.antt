@@ -1,4 +1,4 @@
--- Laws of octets and addresses in hex.
+-- Hex place by place: the two digits of an octet, the octet of two digits, how many there are; and 64 bits are 16 digits.
 -- Assumes nothing.
 use mathlib.Core.Path.{_≡_, refl, ap, _∙_}
 use mathlib.Core.List.{List, [], _∷_}

@@ -1,3 +1,4 @@
+-- The limit of 256 octets is the definition's; where nothing went before d, what `hash_from` pads is the plain padding.
 use borrow.Author.Needs.{needs}
 use borrow.Author.Tests.{le-leb}
 use Rattle.octets.proofs.Choices.{tests}

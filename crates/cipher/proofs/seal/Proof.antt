@@ -1,3 +1,4 @@
+-- The returns are the tests of `sealing`, in its order. An allowed tag has at most 16 octets, so no sum overflows.
 use mathlib.Core.Path.{sym, _∙_}
 use native.Mathlib.Omega.{arith}
 use borrow.Author.Needs.{needs}

@@ -1,3 +1,4 @@
+-- The returns are the tests of `opening`, in its order. An allowed tag has at most 16 octets, so 128 + m does not overflow.
 use mathlib.Core.Path.{sym, _∙_}
 use native.Mathlib.Omega.{arith}
 use borrow.Author.Needs.{needs}

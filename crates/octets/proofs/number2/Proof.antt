@@ -1,3 +1,4 @@
+-- At a place of s the number is that octet and 256 times the next one, which 16 bits hold; past the end both sides are 0.
 use mathlib.Core.Path.{sym}
 use native.Mathlib.Omega.{arith}
 use borrow.Author.Needs.{needs}

@@ -1,3 +1,4 @@
+-- Four octets spell the number of the first two and 65536 times that of the next two; past the end both sides are 0.
 use mathlib.Core.Path.{sym}
 use native.Mathlib.Omega.{arith}
 use borrow.Author.Needs.{needs}

@@ -1,3 +1,4 @@
+-- Eight octets spell the number of the first four and 2^32 times that of the next four; past the end both sides are 0.
 use mathlib.Core.Path.{sym}
 use native.Mathlib.Omega.{arith}
 use borrow.Author.Needs.{needs}

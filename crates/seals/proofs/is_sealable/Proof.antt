@@ -1,3 +1,4 @@
+-- The returns are the tests of `sealable`; that of f alone keeps the last sum small, and where it refuses the sum would too.
 use Prim.Native.Nat.{_+_}
 use native.Mathlib.Omega.{arith}
 use lib.ListN.{length}

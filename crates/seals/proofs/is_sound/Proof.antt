@@ -1,3 +1,4 @@
+-- The returns are the tests of `sound`; the second and third, which add nothing, bound h and x so that the fourth can add them.
 use Prim.Native.Nat.{_+_}
 use native.Mathlib.Omega.{arith}
 use lib.ListN.{length}

@@ -1,3 +1,4 @@
+-- Whether unsealing makes a frame hangs on key, frame and fields alone, not on layer or output; the scratch has room.
 use mathlib.Core.Path.{sym, ap, _∙_}
 use native.Mathlib.Omega.{arith}
 use lib.ListN.{replicate}

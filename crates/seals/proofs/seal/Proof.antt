@@ -1,3 +1,4 @@
+-- The three tests are those of `sealing`, and what passes them is what `seal_sound` asks for.
 use mathlib.Core.Path.{sym, _∙_}
 use borrow.Author.Needs.{needs}
 use borrow.Author.Tests.{le-leb, lt-leb, not-true, not-false}

@@ -1,3 +1,4 @@
+-- Both headers are laid before the cipher writes behind them, so what it authenticates is taken from what is sent; it never refuses.
 use mathlib.Core.Path.{refl}
 use native.Mathlib.Omega.{arith}
 use lib.ListN.{length-take, replicate}

@@ -1,3 +1,4 @@
+-- The test for identifier 1 is the definition's; the answers are 14 and 13, and neither is above 14.
 use native.Mathlib.Omega.{arith}
 use borrow.Author.Tests.{eq-eqb, ne-eqb}
 use Rattle.seals.specs.Sealing.{sentOctets}

@@ -1,3 +1,4 @@
+-- The two tests are those of `unsealing`, and what passes them is what `unseal_sound` asks for.
 use mathlib.Core.Path.{sym, _∙_}
 use borrow.Author.Needs.{needs}
 use borrow.Author.Tests.{lt-leb, not-true, not-false}

@@ -1,3 +1,4 @@
+-- Only the end of out is lent to the cipher: what it leaves there comes back to its place, and the h octets before it stay.
 use mathlib.Core.Path.{ap, ap₂, _∙_}
 use borrow.Author.Needs.{needs}
 use Rattle.settings.specs.Settings.{ours}

@@ -1,3 +1,4 @@
+-- The cipher is asked what the definition asks and lays the message behind h octets; where it did, the plain header goes before.
 use mathlib.Core.Path.{refl, _∙_}
 use native.Mathlib.Omega.{arith}
 use lib.ListN.{length-take, replicate}

@@ -1,3 +1,4 @@
+-- The three arms are the definition's three cases.
 use borrow.Author.Needs.{needs}
 use Rattle.tlvs.specs.Code.{earlier}
 use Rattle.tlvs.proofs.earlier.Statement.{statement}

@@ -1,3 +1,4 @@
+-- Whatever it wants, a walk ends ill just where no TLVs fill s; any other end is a yes.
 use mathlib.Core.Path.{sym, _∙_}
 use borrow.Author.Needs.{needs}
 use Rattle.tlvs.proofs.Walks.{fills-walked}

@@ -1,3 +1,4 @@
+-- The three arms are the definition's three cases; `&&` and `both` ask the same two things in the same order.
 use borrow.Author.Tests.{eq-eqb, ne-eqb}
 use borrow.Author.Needs.{needs}
 use Rattle.tlvs.specs.Looking.{wants}

@@ -1,3 +1,4 @@
+-- The test is the definition's; a TLV that is wanted goes to `earlier`, as there.
 use borrow.Author.Needs.{needs}
 use Rattle.tlvs.specs.Code.{noted}
 use Rattle.tlvs.proofs.noted.Statement.{statement}

@@ -1,3 +1,4 @@
+-- `walk` finds what the definition looks for, and only a place that was found is a yes.
 use mathlib.Core.Path.{sym, _∙_}
 use borrow.Author.Needs.{needs}
 use Rattle.tlvs.specs.Looking.{relays}

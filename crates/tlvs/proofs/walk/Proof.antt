@@ -1,3 +1,4 @@
+-- The loop keeps: all that the walk finds is what was seen, or else what is found from i on; ill there is ill in all.
 use mathlib.Core.Path.{refl}
 use Prim.Native.Nat.{_-_, _≤_}
 use native.Mathlib.Omega.{arith}

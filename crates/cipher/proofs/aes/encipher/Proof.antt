@@ -1,3 +1,4 @@
+-- The loop keeps: s is the state after i rounds from the block with the first key added; nine lead to the last round.
 use mathlib.Core.Path.{_≡_, refl}
 use Prim.Native.Nat.{_-_, _≤_}
 use native.Mathlib.Omega.{arith}

@@ -1,3 +1,4 @@
+-- The loop keeps: k is round key i, c the constant that makes the next one, and w holds the round keys up to i.
 use mathlib.Core.Path.{_≡_, refl}
 use mathlib.Core.List.{[]}
 use Prim.Native.Nat.{_+_, _-_, _≤_}

@@ -1,3 +1,4 @@
+-- The three calls are the definition's three steps, each taking what the one before gave; columns are not mixed.
 use borrow.Author.Needs.{needs}
 use Rattle.cipher.specs.Aes.{lastRound}
 use Rattle.cipher.proofs.aes.last_round.Statement.{statement}

@@ -1,3 +1,4 @@
+-- The two calls of `times` give the products by {02} and {03}; the sum of the four is the definition's.
 use borrow.Author.Needs.{needs}
 use Rattle.cipher.specs.Aes.{mixed}
 use Rattle.cipher.proofs.aes.mix.Statement.{statement}

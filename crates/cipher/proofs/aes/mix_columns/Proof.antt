@@ -1,3 +1,4 @@
+-- The loop keeps: the first i octets are mixed. From `top`, the head of its column, each octet finds the rows below, modulo 4.
 use mathlib.Core.Path.{refl}
 use Prim.Native.Nat.{_-_}
 use borrow.Author.Needs.{needs}

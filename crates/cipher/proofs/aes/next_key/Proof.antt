@@ -1,3 +1,4 @@
+-- The word that is spread over the key is the one that `turned_word` made of the same key.
 use borrow.Author.Needs.{needs}
 use Rattle.cipher.specs.Aes.{nextKey}
 use Rattle.cipher.proofs.aes.next_key.Statement.{statement}

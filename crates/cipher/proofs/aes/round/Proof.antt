@@ -1,3 +1,4 @@
+-- The four calls are the definition's four steps, each taking what the one before gave.
 use borrow.Author.Needs.{needs}
 use Rattle.cipher.specs.Aes.{roundOf}
 use Rattle.cipher.proofs.aes.round.Statement.{statement}

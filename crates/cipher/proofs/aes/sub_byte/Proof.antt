@@ -1,3 +1,4 @@
+-- What was lent is the S-box, and every octet is a place of its 256.
 use mathlib.Core.Path.{ap}
 use lib.ListN.{getD}
 use borrow.Author.Needs.{needs}

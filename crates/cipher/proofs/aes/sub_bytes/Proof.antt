@@ -1,3 +1,4 @@
+-- The loop keeps: the first i octets of t are what the S-box makes of those of s.
 use mathlib.Core.Path.{refl}
 use Prim.Native.Nat.{_-_}
 use borrow.Author.Needs.{needs}

@@ -1,3 +1,4 @@
+-- The constant, written in decimal, has the same 256 octets as the definition's table, written in hex.
 use mathlib.Core.Path.{refl}
 use Rattle.cipher.specs.Sbox.{sboxTable}
 use Rattle.cipher.proofs.aes.table.Statement.{statement}

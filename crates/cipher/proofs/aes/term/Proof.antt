@@ -1,3 +1,4 @@
+-- The lowest bit of b is 0 or 1, so the product is at most a and stays an octet.
 use Prim.Native.Nat.{_%_, _≤_}
 use native.Mathlib.Nat.{mul-le-mul-right}
 use native.Mathlib.Omega.{arith}

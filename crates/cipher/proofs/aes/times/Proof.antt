@@ -1,3 +1,4 @@
+-- The loop keeps: the product is the sum so far plus the terms of the 8 - i bits of b that are left; in the end none is.
 use mathlib.Core.Path.{_≡_, sym, ap, _∙_}
 use Prim.Native.Nat.{_-_, _≤_}
 use native.Mathlib.Omega.{arith}

@@ -1,3 +1,4 @@
+-- Octets 13, 14, 15 and 12 are the last word turned by one place; behind its first octet the constant adds only zeros.
 use lib.Bits.{xor-zero-r}
 use borrow.Author.Needs.{needs}
 use Rattle.cipher.specs.Aes.{turnedWord}

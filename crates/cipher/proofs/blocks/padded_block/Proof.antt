@@ -1,3 +1,4 @@
+-- The loop keeps: the first j octets of the block are those of d from i on, zeros past its end.
 use mathlib.Core.Path.{refl}
 use Prim.Native.Nat.{_-_, _+_}
 use borrow.Author.Needs.{needs}

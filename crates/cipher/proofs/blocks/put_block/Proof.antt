@@ -1,3 +1,4 @@
+-- `paste_at` is handed all 16 octets or the first n, and i + n is within out, so it lays them and leaves nothing out.
 use native.Mathlib.Omega.{arith}
 use lib.ListN.{length-take}
 use borrow.Author.Needs.{needs}

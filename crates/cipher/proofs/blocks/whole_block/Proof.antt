@@ -1,3 +1,4 @@
+-- The loop keeps: the first j octets of the block are those of d from i on; d has all 16, so no read is past its end.
 use mathlib.Core.Path.{refl}
 use Prim.Native.Nat.{_-_, _+_}
 use borrow.Author.Needs.{needs}

@@ -1,3 +1,4 @@
+-- What is enciphered is the sum of x and b that `add_blocks` answers.
 use borrow.Author.Needs.{needs}
 use Rattle.cipher.specs.Ccm.{absorbed}
 use Rattle.cipher.proofs.ccm.absorb.Statement.{statement}

@@ -1,3 +1,4 @@
+-- The loop keeps: the chain from y over the blocks from i on ends as the whole one does; at the end of d no block is left.
 use mathlib.Core.Path.{_≡_, refl, sym, ap, _∙_}
 use Prim.Native.Nat.{_+_, _-_, _≤_}
 use lib.ListN.{length, drop}

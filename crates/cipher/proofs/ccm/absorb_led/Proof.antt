@@ -1,3 +1,4 @@
+-- The first block of L(a) || a has the count and 14 octets of a, so the others are the blocks of a from place 14 on.
 use mathlib.Core.Path.{sym}
 use native.Mathlib.Omega.{arith}
 use borrow.Author.Needs.{needs}

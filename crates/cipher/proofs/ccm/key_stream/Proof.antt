@@ -1,3 +1,4 @@
+-- What is enciphered is the counter block Ai: flags 1, which is L - 1, nonce and i.
 use borrow.Author.Needs.{needs}
 use Rattle.cipher.specs.Ccm.{keyStream}
 use Rattle.cipher.proofs.ccm.key_stream.Statement.{statement}

@@ -1,3 +1,4 @@
+-- B0 added to zeros is B0, so the chain starts with B0 enciphered; `absorb_led`, then `absorb_from`, take in the rest in order.
 use borrow.Author.Needs.{needs}
 use Rattle.cipher.specs.Aes.{cipher}
 use Rattle.cipher.proofs.Chains.{mac-of-calls}

@@ -1,3 +1,4 @@
+-- What is added to t is S0, the key stream's block 0.
 use borrow.Author.Needs.{needs}
 use Rattle.cipher.proofs.ccm.mask.Statement.{statement}
 use Rattle.cipher.proofs.ccm.mask.Tie as tie

@@ -1,3 +1,4 @@
+-- `same` compares the two tags of `fits`: the scratch holds the plain message. Nothing is laid into out before they are equal.
 use mathlib.Core.Path.{refl, _∙_}
 use native.Mathlib.Omega.{arith}
 use lib.ListN.{replicate, length-take}

@@ -1,3 +1,4 @@
+-- The stream is laid over as many octets as p has and the masked tag right behind, as the definition joins the two.
 use borrow.Author.Needs.{needs}
 use Rattle.cipher.specs.Aes.{cipher}
 use Rattle.cipher.proofs.Streams.{seal-by}

@@ -1,3 +1,4 @@
+-- The loop keeps: the first i octets of d, or all, stand enciphered in out, what is behind them stayed, and i is a multiple of 16.
 use mathlib.Core.Path.{_≡_, refl, ap, _∙_}
 use Prim.Native.Nat.{_+_, _-_, _%_, _≤_, min}
 use native.Mathlib.Omega.{arith}

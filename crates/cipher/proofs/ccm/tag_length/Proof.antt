@@ -1,3 +1,4 @@
+-- The tests are the definition's, in its order: 0, or from 4 to 16 and even.
 use Rattle.octets.proofs.Choices.{tests}
 use Rattle.cipher.specs.Answers.{tagLength}
 use Rattle.cipher.proofs.ccm.tag_length.Statement.{statement}

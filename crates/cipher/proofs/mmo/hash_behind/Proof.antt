@@ -1,3 +1,4 @@
+-- A key is one whole block: once it is taken in, what is left is d, padded with 16 more octets in its count.
 use borrow.Author.Needs.{needs}
 use Rattle.cipher.proofs.Pads.{hash-behind}
 use Rattle.cipher.proofs.mmo.hash_behind.Statement.{statement}

@@ -1,3 +1,4 @@
+-- The loop keeps: the chain from x over the padded blocks from i on ends as the whole one does; (l + 18) / 16 is their number.
 use mathlib.Core.Path.{ap₂, _≡_, refl, sym, ap, _∙_}
 use Prim.Native.Nat.{_+_, _-_, _*_, _/_, _≤_}
 use native.Mathlib.Omega.{arith}

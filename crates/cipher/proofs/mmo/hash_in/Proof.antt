@@ -1,3 +1,4 @@
+-- The hash so far is the key that is expanded, and the block that it enciphers is added to the outcome.
 use borrow.Author.Needs.{needs}
 use Rattle.cipher.specs.Aes.{aes128}
 use Rattle.cipher.specs.Hash.{hashedIn}

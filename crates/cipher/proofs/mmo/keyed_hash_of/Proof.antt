@@ -1,3 +1,4 @@
+-- The two calls are the definition's inner and outer hash; the inner one's 16 octets are within what the outer one takes.
 use borrow.Author.Needs.{needs}
 use Rattle.cipher.specs.Hash.{keyedHash}
 use Rattle.cipher.proofs.mmo.keyed_hash_of.Statement.{statement}

@@ -1,3 +1,4 @@
+-- `end` is the first multiple of 16 that is 3 or more beyond d: the mark right behind d, the count in the last two, else zeros.
 use mathlib.Core.Path.{sym, ap, _∙_}
 use native.Mathlib.Omega.{arith}
 use borrow.Author.Needs.{needs}

@@ -1,3 +1,4 @@
+-- Behind the tab of `tabbed`, `put_decimal` lays the number or leaves it out whole: `more`, twice, as `field` says.
 use mathlib.Core.List.{List}
 use Prim.Native.Nat.{ℕ}
 use native.Mathlib.Omega.{arith}

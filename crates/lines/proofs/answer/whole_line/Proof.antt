@@ -1,3 +1,4 @@
+-- Each `put` lays behind the one before. 20 digits, a tab, 8192 octets and a line feed are 8214: nothing is left out.
 use mathlib.Core.List.{List, [], _∷_}
 use Prim.Native.Nat.{ℕ}
 use native.Mathlib.Omega.{arith}

@@ -1,3 +1,4 @@
+-- With room the octet goes right behind the first `at`; without, these are all of buf, and the line is marked as too long.
 use Rattle.lines.proofs.Fed.{fed-room, fed-long}
 use borrow.Author.Needs.{needs}
 use Rattle.lines.proofs.reading.feed.Statement.{statement}

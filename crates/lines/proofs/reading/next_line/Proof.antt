@@ -1,3 +1,4 @@
+-- The loop keeps: reading on from i with the line as it now is ends as the whole reading does; buf keeps its length.
 use mathlib.Core.Path.{_≡_, refl, sym, ap, ap₂, _∙_}
 use Prim.Native.Nat.{ℕ, _+_, _-_}
 use native.Mathlib.Omega.{arith}

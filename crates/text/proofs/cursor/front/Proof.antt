@@ -1,3 +1,4 @@
+-- Where out has fewer than n octets, its first n are all of it; either part starts where out does.
 use mathlib.Core.Path.{refl, sym}
 use native.Mathlib.Omega.{arith}
 use lib.ListN.{length-take}

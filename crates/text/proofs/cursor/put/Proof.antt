@@ -1,3 +1,4 @@
+-- The two tests ask, without a sum, whether src has room behind `at`; where it has, `paste_at` lays it and the place moves on.
 use native.Mathlib.Omega.{arith}
 use borrow.Author.Needs.{needs}
 use Rattle.text.proofs.Placed.{no-room, ahead-fits}

@@ -1,3 +1,4 @@
+-- The three tests are the definition's, in its order: one octet at least, no zero in front, digits alone.
 use mathlib.Core.Path.{sym, _∙_}
 use Prim.Native.Nat.{_≤_}
 use native.Mathlib.Omega.{arith}

@@ -1,3 +1,4 @@
+-- `is_decimal` decides as the definition does; what `value` then answers is the number within its limit.
 use mathlib.Core.Path.{sym, _∙_}
 use borrow.Author.Needs.{needs}
 use borrow.Author.Tests.{not-true, not-false}

@@ -1,3 +1,4 @@
+-- The fewest digits that hold n, which `io::decimal` writes, are n in decimal; a number of 64 bits takes no more than 20.
 use mathlib.Core.Path.{_∙_}
 use native.Mathlib.Omega.{arith}
 use borrow.Author.Needs.{needs}

@@ -1,3 +1,4 @@
+-- The loop keeps: s spells what is read on from n at i, and n is within the limit; reading on never makes it less.
 use mathlib.Core.Path.{_≡_, sym, _∙_, ap}
 use Prim.Native.Nat.{_+_, _*_, _≤_, _-_}
 use native.Mathlib.Omega.{arith}

@@ -1,3 +1,4 @@
+-- The test for two octets is the definition's, and keeps the read within s.
 use borrow.Author.Needs.{needs}
 use Rattle.octets.proofs.Choices.{tests}
 use Rattle.text.specs.Decimal.{zeroLed}

@@ -1,3 +1,4 @@
+-- The loop keeps: all of s are digits just where those from i on are. One that is none settles it.
 use mathlib.Core.Path.{_≡_, sym, _∙_}
 use Prim.Native.Nat.{_≤_, _-_}
 use native.Mathlib.Omega.{arith}

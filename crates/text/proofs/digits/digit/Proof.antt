@@ -1,3 +1,4 @@
+-- The six tests are the definition's, in its order: within each range the difference is from 0 to 15.
 use borrow.Author.Needs.{needs}
 use Rattle.octets.proofs.Choices.{tests}
 use Rattle.text.specs.Digits.{digitOf}

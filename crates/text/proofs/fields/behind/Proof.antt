@@ -1,3 +1,4 @@
+-- The loop keeps: what is behind k tabs is behind `left` tabs from `at` on. With no tab to pass or no octet left, it starts at `at`.
 use mathlib.Core.Path.{_≡_, refl, sym, _∙_, ap}
 use mathlib.Core.List.{[]}
 use Prim.Native.Nat.{_≤_}

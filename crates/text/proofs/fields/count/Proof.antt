@@ -1,3 +1,4 @@
+-- The loop keeps: n and the tabs from i on make the tabs of the line and one; n is at most i + 1, so it does not overflow.
 use mathlib.Core.Path.{_≡_}
 use mathlib.Core.Logic.{⊎-elim}
 use Prim.Native.Nat.{_≤_, _-_, _+_}

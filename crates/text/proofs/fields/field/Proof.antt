@@ -1,3 +1,4 @@
+-- A field goes from the place behind k tabs to the next tab or the end: `behind` and `tab_from` tell both, within the line.
 use mathlib.Core.Path.{refl}
 use borrow.Author.Needs.{needs}
 use Rattle.octets.proofs.Parts.{same-part}

@@ -1,3 +1,4 @@
+-- What is behind the tab that `tab_from` tells starts one place on; without a tab that is the line's end, and nothing is behind.
 use native.Mathlib.Omega.{arith}
 use borrow.Author.Needs.{needs}
 use Rattle.text.proofs.Parted.{after-tab, after-none}

@@ -1,3 +1,4 @@
+-- The loop keeps: no tab stands between `from` and i, so the next one from either is the same.
 use mathlib.Core.Path.{_≡_, ap}
 use Prim.Native.Nat.{_≤_, _-_, _+_}
 use native.Mathlib.Omega.{arith}

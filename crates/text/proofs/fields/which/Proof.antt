@@ -1,3 +1,4 @@
+-- The loop keeps: the search from field k on ends as the whole search does. A field that is w ends it, another moves it on.
 use mathlib.Core.Path.{_≡_, sym, _∙_, ap}
 use Prim.Native.Nat.{_≤_, _-_}
 use native.Mathlib.Omega.{arith}

@@ -1,3 +1,4 @@
+-- The two tests are the definition's, and what passes them is what `value`, which reads the number, asks for.
 use mathlib.Core.Path.{sym, _∙_}
 use borrow.Author.Needs.{needs}
 use borrow.Author.Tests.{not-true, not-false}

@@ -1,3 +1,4 @@
+-- The loop keeps: the first i octets that s spells are at the front of out, and behind them stands what stood there.
 use mathlib.Core.Path.{_≡_, refl, _∙_, ap, ap₂}
 use mathlib.Core.List.{List, _++_}
 use Prim.Native.Nat.{ℕ, _≤_, _-_, _/_}

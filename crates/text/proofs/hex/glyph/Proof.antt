@@ -1,3 +1,4 @@
+-- The test is that of io's `glyph`; d is below 16, so both sums are octets.
 use borrow.Author.Needs.{needs}
 use Rattle.octets.proofs.Choices.{tests}
 use Rattle.text.proofs.hex.glyph.Statement.{statement}

@@ -1,3 +1,4 @@
+-- Digits 2i and 2i + 1 are the halves of octet i, the upper one first; each half is below 16.
 use mathlib.Core.Path.{sym, _∙_}
 use Prim.Native.Nat.{_/_}
 use native.Mathlib.Omega.{arith}

@@ -1,3 +1,4 @@
+-- Octet i is spelt by digits 2i and 2i + 1. All of s are digits below 16, so the two make no more than 255.
 use mathlib.Core.Path.{sym, ap₂, _∙_}
 use Prim.Native.Nat.{ℕ, _+_, _*_}
 use native.Mathlib.Omega.{arith}

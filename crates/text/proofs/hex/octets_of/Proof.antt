@@ -1,3 +1,4 @@
+-- The three tests are those of `isHex`, and all stand before `fill`, which lays the octets that s spells.
 use mathlib.Core.Path.{sym, _∙_}
 use borrow.Author.Needs.{needs}
 use borrow.Author.Tests.{not-true, not-false}

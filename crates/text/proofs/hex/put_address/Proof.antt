@@ -1,3 +1,4 @@
+-- `io::hex` writes at least 16 digits, and a number of 64 bits has no more: these are the address.
 use mathlib.Core.Path.{_∙_, ap}
 use native.Mathlib.Omega.{arith}
 use borrow.Author.Needs.{needs}

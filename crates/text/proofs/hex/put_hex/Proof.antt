@@ -1,3 +1,4 @@
+-- The loop keeps: the first j digits are laid from `at` on. The two tests before it ask, without a sum, whether all digits fit.
 use mathlib.Core.Path.{ap₂, _≡_, refl, sym, _∙_, ap}
 use mathlib.Core.List.{List}
 use Prim.Native.Nat.{ℕ, _≤_, _-_, _+_, _*_}
