@@ -88,7 +88,7 @@ unfolding padded paddedAfter
 pad-none d =
     ap (λ (k : ℕ). d ++ (0x80 ∷ replicate ((29 - length d % 16) % 16) 0 ++ twoOctets (8 * k))) (zero-add (length d))
 
--- a first block k, and then d: the blocks that a hash takes in behind it
+-- a first block, and then d: the blocks that a hash takes in behind it
 pub pad-behind : (g : ℕ → ℕ) (d : List ℕ) → blocks (padded (tab 16 g ++ d)) ≡ tab 16 g ∷ blocks (paddedAfter 16 d)
 unfolding padded paddedAfter blockFrom
 pad-behind g d =

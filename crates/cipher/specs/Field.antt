@@ -16,7 +16,7 @@ mulBits (suc n) a b = bitXor (b % 2 * a) (mulBits n (xtime a) (b / 2))
 unfoldable pub mul : ℕ → ℕ → ℕ
 mul a b = mulBits 8 a b
 
--- b, and then n times its square, multiplied together
+-- the square of b, the square of that, and so on, n of them, multiplied together
 unfoldable pub squares : ℕ → ℕ → ℕ
 squares zero b = 1
 squares (suc n) b = mul (mul b b) (squares n (mul b b))

@@ -64,7 +64,7 @@ fn absorb(sb: &[u8; 256], w: &[[u8; 16]; 11], x: [u8; 16], b: [u8; 16]) -> [u8; 
     encipher(sb, w, add_blocks(x, b))
 }
 
-// The chain over the blocks of d from place at on.
+// The chain over the blocks of d from place `from` on.
 fn absorb_from(sb: &[u8; 256], w: &[[u8; 16]; 11], x: [u8; 16], d: &[u8], from: usize) -> [u8; 16]
     requires { ⌜ (now sb ≡ sboxTable) × (from ≤ 16) ⌝ }
     ensures { λ r. ⌜ r ≡ over (absorbed (cipher (now (w .entry)))) x (blocks (drop from (now (d .entry)))) ⌝ }

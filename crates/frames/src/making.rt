@@ -25,11 +25,17 @@ fn lay(out: &mut [u8], f: &[u8], n: usize, i: usize, x: u8)
 }
 
 // The authenticated octets of a secured frame: its first n, with level 5 in the security control,
-// which stands at place h.
-pub fn lay_authenticated(out: &mut [u8], f: &[u8], h: usize, n: usize)
-    ensures { λ _. ⌜ now (out .exit) ≡ laid (now (out .entry)) (now (f .entry)) n (authenticated ours (now (f .entry)) h n) ⌝ }
+// which stands behind the header.
+pub fn lay_authenticated(out: &mut [u8], frame: &[u8], header: usize, n: usize)
+    ensures { λ _. ⌜ now (out .exit) ≡ laid (now (out .entry)) (now (frame .entry)) n (authenticated ours (now (frame .entry)) header n) ⌝ }
 {
-    lay(out, f, n, h, security::with_level(octets::octet(f, h)));
+    lay(
+        out,
+        frame,
+        n,
+        header,
+        security::with_level(octets::octet(frame, header)),
+    );
 }
 
 fn place(l: Layer) -> usize
@@ -60,17 +66,17 @@ fn mark(l: Layer, x: u8) -> u8
 }
 
 // The header of the plain frame: its security bit cleared.
-pub fn lay_plain_header(out: &mut [u8], l: Layer, f: &[u8], h: usize)
-    ensures { λ _. ⌜ now (out .exit) ≡ laid (now (out .entry)) (now (f .entry)) h (plainHeader l (now (f .entry)) h) ⌝ }
+pub fn lay_plain_header(out: &mut [u8], layer: Layer, frame: &[u8], header: usize)
+    ensures { λ _. ⌜ now (out .exit) ≡ laid (now (out .entry)) (now (frame .entry)) header (plainHeader layer (now (frame .entry)) header) ⌝ }
 {
-    let i = place(l);
-    lay(out, f, h, i, clear(l, octets::octet(f, i)));
+    let i = place(layer);
+    lay(out, frame, header, i, clear(layer, octets::octet(frame, i)));
 }
 
 // The header of the secured frame: its security bit set.
-pub fn lay_secured_header(out: &mut [u8], l: Layer, f: &[u8], h: usize)
-    ensures { λ _. ⌜ now (out .exit) ≡ laid (now (out .entry)) (now (f .entry)) h (securedHeader l (now (f .entry)) h) ⌝ }
+pub fn lay_secured_header(out: &mut [u8], layer: Layer, frame: &[u8], header: usize)
+    ensures { λ _. ⌜ now (out .exit) ≡ laid (now (out .entry)) (now (frame .entry)) header (securedHeader layer (now (frame .entry)) header) ⌝ }
 {
-    let i = place(l);
-    lay(out, f, h, i, mark(l, octets::octet(f, i)));
+    let i = place(layer);
+    lay(out, frame, header, i, mark(layer, octets::octet(frame, i)));
 }

@@ -38,6 +38,6 @@ module _ (z : Settings) (k : Key) (l : Layer) (f : List ℕ) (s : Secured) (o : 
       go true invalid = refl
       go false r = refl
 
-  -- of the answer that the call product
+  -- of the answer that the call gave
   pub looked : (r : Unsealed) (p : List ℕ) → product (toldUnsealed r) p ≡ unsealing z k l f s o → isMade (toldUnsealed r) ≡ looking z k f s
   looked r p e = ap (λ (x : Product). isMade (x .answer)) e ∙ looking-is

@@ -86,7 +86,7 @@ module _ (z : Settings) (fair : Fair z) (key : Key) (nonce : List ℕ) (l : Laye
       (drop h f) (drop (h + w) q) (omega arith) (omega (arith, length-drop (h + w) q))
       ∙ ap (λ (n : ℕ). product (made (n + z .tag)) (onto (ciphered z key nonce l x f h) (drop (h + w) q))) d
 
-  -- of the outputs p, q and v, the scratch and a, and the answer r, as the calls product them
+  -- of the outputs p, q and v, the scratch and a, and the answer r, as the calls gave them
   secured-by : (scratch : List ℕ) (r : Answer) {p q a v : List ℕ}
       → p ≡ laid o f h (securedHeader l f h)
       → q ≡ pasted p h x
@@ -149,7 +149,7 @@ module _ (z : Settings) (key : Key) (l : Layer) (k n a q : ℕ) (f : List ℕ) (
     sealing-makes =
         simp (le-leb _ _ low, le-leb _ _ (t .headed), le-leb _ _ (t .within), le-leb _ _ (t .short), le-leb _ _ room)
 
-    -- of what the calls product: outputs p, u and v, scratch and s, control c, nonce m, answer r
+    -- of what the calls gave: outputs p, u and v, scratch and s, control c, nonce m, answer r
     pub sealed-by : Fair z → (scratch : List ℕ) {w c : ℕ} {m p u s v : List ℕ} {r : Answer}
         → w ≡ sentOctets k
         → p ≡ laid o f h (securedHeader l f h)

@@ -60,7 +60,7 @@ module _ (z : Settings) (fair : Fair z) (k : Key) (l : Layer) (f : List ℕ) (s 
 -- ---- sealing
 
 module _ (z : Settings) (key : Key) (l : Layer) (k n a q : ℕ) (f : List ℕ) (h : ℕ) (o : List ℕ) (low : k ≤ 3) (t : Sealable z k f h) (room : longest ≤ length o) where
-  -- of the answer that the call product
+  -- of the answer that the call gave
   pub sealed-tells : (w : Enclosed) (m : ℕ) (p : List ℕ) → w ≡ Octets m → product (toldEnclosed w) p ≡ sealing z key l k n a q f h o
       → (m ≡ length f + sentOctets k + z .tag) × (p ≡ onto (sealedFrame z key l k n a q f h) o)
   sealed-tells w m p ew e =

@@ -106,7 +106,7 @@ unsealing z k l f s o =
 unfoldable pub looking : Settings → Key → List ℕ → Secured → Bool
 looking z k f s = both (sound z f s) (genuine z k f s)
 
--- a plain frame that leaves room for the auxiliary header and the tag
+-- a plain frame that has its header, one with the security bit, and leaves room for the auxiliary header and the tag
 unfoldable pub sealable : Settings → ℕ → List ℕ → ℕ → Bool
 sealable z k f h = both (leb 2 h) (both (leb h (length f)) (leb (length f + sentOctets k + z .tag) longest))
 

@@ -47,18 +47,24 @@ fn is_sound(f: &[u8], s: Secured) -> bool
     f.len() <= settings::LONGEST
 }
 
-// The plain frame of a secured one, at the start of out, where its tag fits the key. Otherwise out,
-// which has 116 octets or more, is as it stood.
-pub fn unseal(key: [u8; 16], l: Layer, f: &[u8], s: Secured, out: &mut [u8]) -> Unsealed
-    ensures { λ r. ⌜ product (toldUnsealed r) (now (out .exit)) ≡ unsealing ours (theKey key) l (now (f .entry)) s (now (out .entry)) ⌝ }
+// The plain frame of a secured one, at the start of out, where its tag fits the key. Otherwise, and
+// where out has fewer than 116 octets, out is as it stood.
+pub fn unseal(
+    key: [u8; 16],
+    layer: Layer,
+    frame: &[u8],
+    secured: Secured,
+    out: &mut [u8],
+) -> Unsealed
+    ensures { λ r. ⌜ product (toldUnsealed r) (now (out .exit)) ≡ unsealing ours (theKey key) layer (now (frame .entry)) secured (now (out .entry)) ⌝ }
 {
-    if !is_sound(f, s) {
+    if !is_sound(frame, secured) {
         return Unsealed::Forged;
     }
     if out.len() < settings::LONGEST {
         return Unsealed::Forged;
     }
-    unseal_sound(key, l, f, s, out)
+    unseal_sound(key, layer, frame, secured, out)
 }
 
 // The cipher's part, which writes behind h octets of out.
@@ -97,11 +103,11 @@ fn unseal_sound(key: [u8; 16], l: Layer, f: &[u8], s: Secured, out: &mut [u8]) -
 }
 
 // Whether the tag of a secured frame fits a key. It changes nothing.
-pub fn look(key: [u8; 16], f: &[u8], s: Secured) -> bool
-    ensures { λ r. ⌜ r ≡ looking ours (theKey key) (now (f .entry)) s ⌝ }
+pub fn look(key: [u8; 16], frame: &[u8], secured: Secured) -> bool
+    ensures { λ r. ⌜ r ≡ looking ours (theKey key) (now (frame .entry)) secured ⌝ }
 {
     let mut out = [0u8; settings::LONGEST];
-    match unseal(key, Layer::Aps, f, s, &mut out) {
+    match unseal(key, Layer::Aps, frame, secured, &mut out) {
         Unsealed::Plain(_) => true,
         Unsealed::Forged => false,
     }
@@ -132,33 +138,43 @@ fn is_sealable(identifier: u8, f: &[u8], h: usize) -> bool
     f.len() + sent_octets(identifier) + settings::TAG <= settings::LONGEST
 }
 
-// The secured frame of a plain frame f with h octets of header, at the start of out, with the
+// The secured frame of a plain frame with so many octets of header, at the start of out, with the
 // length that it answers. None is made, and out stays, where the identifier is above 3, where the
 // frame has fewer octets or leaves no room for auxiliary header and tag, or where out has fewer than
 // 116 octets.
 pub fn seal(
     key: [u8; 16],
-    l: Layer,
+    layer: Layer,
     identifier: u8,
     counter: u32,
     sender: u64,
     sequence: u8,
-    f: &[u8],
-    h: usize,
+    frame: &[u8],
+    header: usize,
     out: &mut [u8],
 ) -> Enclosed
-    ensures { λ r. ⌜ product (toldEnclosed r) (now (out .exit)) ≡ Seals·sealing ours (theKey key) l identifier counter sender sequence (now (f .entry)) h (now (out .entry)) ⌝ }
+    ensures { λ r. ⌜ product (toldEnclosed r) (now (out .exit)) ≡ Seals·sealing ours (theKey key) layer identifier counter sender sequence (now (frame .entry)) header (now (out .entry)) ⌝ }
 {
     if 3 < identifier {
         return Enclosed::Nothing;
     }
-    if !is_sealable(identifier, f, h) {
+    if !is_sealable(identifier, frame, header) {
         return Enclosed::Nothing;
     }
     if out.len() < settings::LONGEST {
         return Enclosed::Nothing;
     }
-    seal_sound(key, l, identifier, counter, sender, sequence, f, h, out)
+    seal_sound(
+        key,
+        layer,
+        identifier,
+        counter,
+        sender,
+        sequence,
+        frame,
+        header,
+        out,
+    )
 }
 
 // Both headers, then the cipher's part behind them.

@@ -1,6 +1,6 @@
 // Lines of text: their fields, numbers and octets, read and written.
 //
-// No function here asks anything of its caller, and each says by an equation what it answers, so a
+// No callable function here asks anything of its caller, and each says by an equation what it answers, so a
 // program that talks in lines needs no proof of its own.
 mod cursor;
 mod decimal;

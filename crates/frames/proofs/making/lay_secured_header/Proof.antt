@@ -27,7 +27,7 @@ returns c =
     let after-octet : tie.After-octet = search in
     let after-place : tie.After-place = search in
     let start : tie.Start = search in
-    laid-over _ _ _ _ _ _ _ _ (marked (bitValue (start .args .l))) (after-lay .lay .ensures) (after-place .place .ensures)
+    laid-over _ _ _ _ _ _ _ _ (marked (bitValue (start .args .layer))) (after-lay .lay .ensures) (after-place .place .ensures)
     (after-mark .mark .ensures) (after-octet .octet .ensures)
 
 pub lay-secured-header-spec : {M : Type 1} → statement M
