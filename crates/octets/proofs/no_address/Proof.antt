@@ -1,3 +1,4 @@
+-- The two tests are the definition's.
 use Rattle.octets.proofs.Choices.{tests}
 use Rattle.octets.specs.Addresses.{noAddress}
 use Rattle.octets.proofs.no_address.Statement.{statement}

@@ -1,3 +1,4 @@
+-- Past the end both are 0; else a number of two octets is put together from them.
 use mathlib.Core.Path.{sym}
 use native.Mathlib.Omega.{arith}
 use borrow.Author.Needs.{needs}

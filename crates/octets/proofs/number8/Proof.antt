@@ -1,3 +1,4 @@
+-- Past the end both are 0; else a number of eight octets is put together from its two halves.
 use mathlib.Core.Path.{sym}
 use native.Mathlib.Omega.{arith}
 use borrow.Author.Needs.{needs}

@@ -1,3 +1,4 @@
+-- Past its end a string has 0, by definition.
 use mathlib.Core.Path.{sym}
 use lib.ListN.{List·getD-eq-default}
 use borrow.Author.Needs.{needs}

@@ -1,3 +1,4 @@
+-- After j turns the first j octets are laid; where they do not fit, none is.
 use mathlib.Core.Path.{_≡_, refl, sym, ap, _∙_}
 use Prim.Native.Nat.{_+_, _-_, _≤_}
 use native.Mathlib.Omega.{arith}

@@ -1,3 +1,4 @@
+-- What was seen so far parts the lists, or what is left does: after the last octet nothing is left.
 use mathlib.Core.Path.{_≡_, sym, _∙_}
 use Prim.Native.Nat.{_≤_, _-_}
 use native.Mathlib.Omega.{arith}
