@@ -49,7 +49,7 @@ fn with_short(l: Line, v: u16) -> Line
     requires { ⌜ (l .count + 2 ≤ 35) × (length (l .octets) ≡ 35) ⌝ }
     ensures { λ r. ⌜ (r .count ≡ l .count + 2) × (length (r .octets) ≡ 35) × (lined r ≡ lined l ++ spelled 2 v) ⌝ }
 {
-    let two = [(v % 256) as u8, (v / 256 % 256) as u8];
+    let two = octets::spelled2(v);
     with_part(l, &two)
 }
 
@@ -57,23 +57,7 @@ fn with_address(l: Line, v: u64) -> Line
     requires { ⌜ (l .count + 8 ≤ 35) × (length (l .octets) ≡ 35) ⌝ }
     ensures { λ r. ⌜ (r .count ≡ l .count + 8) × (length (r .octets) ≡ 35) × (lined r ≡ lined l ++ spelled 8 v) ⌝ }
 {
-    let v1 = v / 256;
-    let v2 = v1 / 256;
-    let v3 = v2 / 256;
-    let v4 = v3 / 256;
-    let v5 = v4 / 256;
-    let v6 = v5 / 256;
-    let v7 = v6 / 256;
-    let eight = [
-        (v % 256) as u8,
-        (v1 % 256) as u8,
-        (v2 % 256) as u8,
-        (v3 % 256) as u8,
-        (v4 % 256) as u8,
-        (v5 % 256) as u8,
-        (v6 % 256) as u8,
-        (v7 % 256) as u8,
-    ];
+    let eight = octets::spelled8(v);
     with_part(l, &eight)
 }
 

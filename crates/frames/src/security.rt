@@ -67,68 +67,31 @@ pub(crate) fn sequence(f: &[u8], h: usize) -> u8
     0
 }
 
-// The nonce of CCM*, its control with level 5.
+// The nonce of CCM*, its control with the level that is worked with.
 pub fn nonce(sender: u64, counter: u32, control: u8) -> [u8; 13]
     ensures { λ r. ⌜ r ≡ nonceOf ours sender counter control ⌝ }
 {
-    let s1 = sender / 256;
-    let s2 = s1 / 256;
-    let s3 = s2 / 256;
-    let s4 = s3 / 256;
-    let s5 = s4 / 256;
-    let s6 = s5 / 256;
-    let s7 = s6 / 256;
-    let c1 = counter / 256;
-    let c2 = c1 / 256;
-    let c3 = c2 / 256;
-    let last = with_level(control);
-    [
-        (sender % 256) as u8,
-        (s1 % 256) as u8,
-        (s2 % 256) as u8,
-        (s3 % 256) as u8,
-        (s4 % 256) as u8,
-        (s5 % 256) as u8,
-        (s6 % 256) as u8,
-        (s7 % 256) as u8,
-        (counter % 256) as u8,
-        (c1 % 256) as u8,
-        (c2 % 256) as u8,
-        (c3 % 256) as u8,
-        last,
-    ]
+    let address = octets::spelled8(sender);
+    let count = octets::spelled4(counter);
+    let mut octets = [0u8; 13];
+    octets::paste_at(&mut octets, 0, &address);
+    octets::paste_at(&mut octets, 8, &count);
+    octets[12] = with_level(control);
+    octets
 }
 
 // The fields of the auxiliary header, the key sequence number last.
 fn aux_fields(control: u8, counter: u32, sender: u64, sequence: u8) -> [u8; 14]
     ensures { λ r. ⌜ r ≡ control ∷ (spelled 4 counter ++ (spelled 8 sender ++ (sequence ∷ []))) ⌝ }
 {
-    let c1 = counter / 256;
-    let c2 = c1 / 256;
-    let c3 = c2 / 256;
-    let s1 = sender / 256;
-    let s2 = s1 / 256;
-    let s3 = s2 / 256;
-    let s4 = s3 / 256;
-    let s5 = s4 / 256;
-    let s6 = s5 / 256;
-    let s7 = s6 / 256;
-    [
-        control,
-        (counter % 256) as u8,
-        (c1 % 256) as u8,
-        (c2 % 256) as u8,
-        (c3 % 256) as u8,
-        (sender % 256) as u8,
-        (s1 % 256) as u8,
-        (s2 % 256) as u8,
-        (s3 % 256) as u8,
-        (s4 % 256) as u8,
-        (s5 % 256) as u8,
-        (s6 % 256) as u8,
-        (s7 % 256) as u8,
-        sequence,
-    ]
+    let count = octets::spelled4(counter);
+    let address = octets::spelled8(sender);
+    let mut octets = [0u8; 14];
+    octets[0] = control;
+    octets::paste_at(&mut octets, 1, &count);
+    octets::paste_at(&mut octets, 5, &address);
+    octets[13] = sequence;
+    octets
 }
 
 // The auxiliary header that sealing sends, laid into out from place i on; only identifier 1 sends

@@ -1,7 +1,7 @@
 // Lists of octets: what every layer above reads and writes.
 ghost use mathlib.Core.Path.{_≡_};
 ghost use Rattle.octets.specs.Lists.{at, eqList, pasted};
-ghost use Rattle.octets.specs.Least.{numberAt};
+ghost use Rattle.octets.specs.Least.{numberAt, spelled};
 ghost use Rattle.octets.specs.Addresses.{noAddress};
 
 // Whether a and b hold the same octets. It looks at all of them, whatever it finds, so that the
@@ -75,6 +75,52 @@ pub fn number8(s: &[u8], i: usize) -> u64
     let a = number4(s, i) as u64;
     let b = number4(s, i + 4) as u64;
     a + 4294967296 * b
+}
+
+// The two octets that spell n, least octet first.
+pub fn spelled2(n: u16) -> [u8; 2]
+    ensures { λ r. ⌜ r ≡ spelled 2 n ⌝ }
+{
+    let n1 = n / 256;
+    [(n % 256) as u8, (n1 % 256) as u8]
+}
+
+// The four octets that spell n, likewise.
+pub fn spelled4(n: u32) -> [u8; 4]
+    ensures { λ r. ⌜ r ≡ spelled 4 n ⌝ }
+{
+    let n1 = n / 256;
+    let n2 = n1 / 256;
+    let n3 = n2 / 256;
+    [
+        (n % 256) as u8,
+        (n1 % 256) as u8,
+        (n2 % 256) as u8,
+        (n3 % 256) as u8,
+    ]
+}
+
+// The eight octets that spell n, likewise.
+pub fn spelled8(n: u64) -> [u8; 8]
+    ensures { λ r. ⌜ r ≡ spelled 8 n ⌝ }
+{
+    let n1 = n / 256;
+    let n2 = n1 / 256;
+    let n3 = n2 / 256;
+    let n4 = n3 / 256;
+    let n5 = n4 / 256;
+    let n6 = n5 / 256;
+    let n7 = n6 / 256;
+    [
+        (n % 256) as u8,
+        (n1 % 256) as u8,
+        (n2 % 256) as u8,
+        (n3 % 256) as u8,
+        (n4 % 256) as u8,
+        (n5 % 256) as u8,
+        (n6 % 256) as u8,
+        (n7 % 256) as u8,
+    ]
 }
 
 // Whether an address is nobody's: zero or all ones.

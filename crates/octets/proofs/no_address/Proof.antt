@@ -1,4 +1,4 @@
--- The two tests are the definition's two, zero and then all ones, which is 2^64 - 1 written out.
+-- The two tests are the definition's.
 use Rattle.octets.proofs.Choices.{tests}
 use Rattle.octets.specs.Addresses.{noAddress}
 use Rattle.octets.proofs.no_address.Statement.{statement}

@@ -1,4 +1,4 @@
--- At a place of s the number is that octet and 256 times the next one, which 16 bits hold; past the end both sides are 0.
+-- Past the end both are 0; else a number of two octets is put together from them.
 use mathlib.Core.Path.{sym}
 use native.Mathlib.Omega.{arith}
 use borrow.Author.Needs.{needs}

@@ -1,4 +1,4 @@
--- Four octets spell the number of the first two and 65536 times that of the next two; past the end both sides are 0.
+-- Past the end both are 0; else a number of four octets is put together from its two halves.
 use mathlib.Core.Path.{sym}
 use native.Mathlib.Omega.{arith}
 use borrow.Author.Needs.{needs}

@@ -1,4 +1,4 @@
--- Eight octets spell the number of the first four and 2^32 times that of the next four; past the end both sides are 0.
+-- Past the end both are 0; else a number of eight octets is put together from its two halves.
 use mathlib.Core.Path.{sym}
 use native.Mathlib.Omega.{arith}
 use borrow.Author.Needs.{needs}

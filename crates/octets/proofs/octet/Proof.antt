@@ -1,4 +1,4 @@
--- The test that keeps the read within s is the one by which `at` falls back to 0.
+-- Past its end a string has 0, by definition.
 use mathlib.Core.Path.{sym}
 use lib.ListN.{List·getD-eq-default}
 use borrow.Author.Needs.{needs}

@@ -1,4 +1,4 @@
--- The loop keeps: the first j octets of src are laid from i on. The two tests before it ask, without a sum, whether all of it fits.
+-- After j turns the first j octets are laid; where they do not fit, none is.
 use mathlib.Core.Path.{_≡_, refl, sym, ap, _∙_}
 use Prim.Native.Nat.{_+_, _-_, _≤_}
 use native.Mathlib.Omega.{arith}

@@ -1,4 +1,4 @@
--- The loop keeps: a and b are equal just where no octet before i was apart and their octets from i on are equal.
+-- What was seen so far parts the lists, or what is left does: after the last octet nothing is left.
 use mathlib.Core.Path.{_≡_, sym, _∙_}
 use Prim.Native.Nat.{_≤_, _-_}
 use native.Mathlib.Omega.{arith}

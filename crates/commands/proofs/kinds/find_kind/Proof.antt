@@ -1,3 +1,4 @@
+-- Each arm is the identifier's row of the list; in the arms between, no identifier of the list is left.
 use borrow.Author.Tests.{ne-eqb}
 use borrow.Author.Needs.{needs}
 use Rattle.commands.specs.Kinds.{listed}

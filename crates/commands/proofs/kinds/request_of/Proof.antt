@@ -1,3 +1,4 @@
+-- Each arm is the type's row of the list; in the arms between, no type of the list is left.
 use borrow.Author.Tests.{ne-eqb}
 use Rattle.commands.specs.Kinds.{requestOf}
 use Rattle.commands.proofs.kinds.request_of.Statement.{statement}

@@ -1,3 +1,4 @@
+-- Each arm is the type's row of the list; in the last, no type of the list is left.
 use borrow.Author.Tests.{ne-eqb}
 use Rattle.commands.specs.Kinds.{transportOf}
 use Rattle.commands.proofs.kinds.transport_of.Statement.{statement}

@@ -1,3 +1,4 @@
+-- Each arm is the definition's.
 use borrow.Author.Needs.{needs}
 use Rattle.commands.specs.Parts.{hashIn}
 use Rattle.commands.proofs.parts.hash_in.Statement.{statement}

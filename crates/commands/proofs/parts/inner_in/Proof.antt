@@ -1,3 +1,4 @@
+-- Each arm is the definition's.
 use borrow.Author.Needs.{needs}
 use Rattle.commands.specs.Parts.{innerIn}
 use Rattle.commands.proofs.parts.inner_in.Statement.{statement}

@@ -1,3 +1,4 @@
+-- A refusal has no span; a sound frame's goes by the row that was looked up.
 use borrow.Author.Needs.{needs}
 use Rattle.commands.specs.Parts.{keySpan}
 use Rattle.commands.proofs.parts.key_span.Statement.{statement}

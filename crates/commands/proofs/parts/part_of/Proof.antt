@@ -1,3 +1,4 @@
+-- From a to a + n are n octets.
 use mathlib.Core.Path.{refl}
 use borrow.Author.Needs.{needs}
 use Rattle.octets.proofs.Parts.{same-part}

@@ -1,3 +1,4 @@
+-- Where the frame is too short the difference is 0 in the definition as well.
 use mathlib.Core.Path.{refl}
 use native.Mathlib.Omega.{arith}
 use Rattle.commands.specs.Parts.{restSpan}

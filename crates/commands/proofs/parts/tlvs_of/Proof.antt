@@ -1,3 +1,4 @@
+-- The span of the frame's judgement lies inside the frame, so that part can be cut out.
 use mathlib.Core.Path.{ap, _∙_}
 use borrow.Author.Needs.{needs}
 use Rattle.commands.specs.Parts.{cutAt, tlvsSpan}

@@ -1,3 +1,4 @@
+-- A refusal has no span; a sound frame's goes by the row that was looked up.
 use mathlib.Core.Path.{ap}
 use native.Mathlib.Omega.{arith}
 use borrow.Author.Needs.{needs}

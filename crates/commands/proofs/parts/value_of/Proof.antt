@@ -1,3 +1,4 @@
+-- A value found in the TLVs lies inside their span, and that inside the frame, so that part can be cut out.
 use mathlib.Core.Path.{sym, ap, subst, _∙_}
 use borrow.Author.Needs.{needs}
 use Rattle.commands.specs.Parts.{cutAt, tlvsSpan, valueSpan}

@@ -1,3 +1,4 @@
+-- The TLVs are lent as a part of the frame; what was found in them lies as far behind where they start.
 use mathlib.Core.Path.{_∙_}
 use native.Mathlib.Omega.{arith}
 use borrow.Author.Needs.{needs}

@@ -1,3 +1,4 @@
+-- Each kind's numbers are read where `commandIn` reads them.
 use borrow.Author.Needs.{needs}
 use Rattle.commands.specs.Reading.{commandIn}
 use Rattle.commands.proofs.reader.fields_of.Statement.{statement}

@@ -1,3 +1,4 @@
+-- 14 and 2 are the definition's first tests; then what the header told decides.
 use mathlib.Core.Path.{sym, ap, _∙_}
 use borrow.Author.Tests.{lt-ltb, le-ltb, not-true, not-false}
 use borrow.Author.Needs.{needs}

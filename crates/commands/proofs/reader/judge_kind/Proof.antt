@@ -1,3 +1,4 @@
+-- The tests of size, of what follows and of protection are `judgeKind`'s, in its order, by the row that was looked up.
 use mathlib.Core.Path.{sym, ap, _∙_}
 use Prim.Native.Nat.{_+_}
 use native.Mathlib.Omega.{arith}

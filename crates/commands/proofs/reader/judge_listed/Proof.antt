@@ -1,3 +1,4 @@
+-- The two octets are the definition's, so the row found by them is; a row is judged by `judge_kind`.
 use mathlib.Core.Path.{sym, _∙_}
 use borrow.Author.Needs.{needs}
 use Rattle.commands.specs.Reading.{judgeListed}

@@ -1,3 +1,4 @@
+-- The judgement decides: its refusal is handed on, and a kind that is sound gives its fields.
 use mathlib.Core.Path.{sym, ap, _∙_}
 use borrow.Author.Needs.{needs}
 use Rattle.commands.specs.Reading.{readCommand}

@@ -1,3 +1,4 @@
+-- Each arm is the definition's.
 use borrow.Author.Needs.{needs}
 use Rattle.commands.specs.Table.{fits}
 use Rattle.commands.proofs.table.fits_rest.Statement.{statement}

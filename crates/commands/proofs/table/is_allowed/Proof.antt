@@ -1,3 +1,4 @@
+-- Each pair of arms is the definition's.
 use borrow.Author.Needs.{needs}
 use Rattle.commands.specs.Table.{allows}
 use Rattle.commands.proofs.table.is_allowed.Statement.{statement}

@@ -1,3 +1,4 @@
+-- Each arm is one of the definition's tests; in the last, none of them is left.
 use borrow.Author.Tests.{ne-eqb}
 use borrow.Author.Needs.{needs}
 use Rattle.commands.specs.Table.{known}

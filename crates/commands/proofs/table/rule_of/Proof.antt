@@ -1,3 +1,4 @@
+-- Each arm is the kind's row of the list.
 use borrow.Author.Needs.{needs}
 use Rattle.commands.specs.Table.{ruleOf}
 use Rattle.commands.proofs.table.rule_of.Statement.{statement}

@@ -1,3 +1,4 @@
+-- Adding 1 so that 255 goes round to 0 is the remainder by 256.
 use borrow.Author.Needs.{needs}
 use Rattle.commands.specs.Writing.{apsRaised}
 use Rattle.commands.proofs.writer.aps_raised.Statement.{statement}

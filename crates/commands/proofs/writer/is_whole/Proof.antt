@@ -1,3 +1,4 @@
+-- The two tests are the definition's: the size of key or hash, then what follows.
 use borrow.Author.Needs.{needs}
 use Rattle.commands.proofs.Laid.{whole-not, whole-by}
 use Rattle.commands.proofs.writer.is_whole.Statement.{statement}

@@ -1,3 +1,4 @@
+-- Each part is laid right behind the last, so together they stand at the start of the output.
 use mathlib.Core.Path.{refl, sym}
 use native.Mathlib.Omega.{arith}
 use lib.ListN.{take}

@@ -1,3 +1,4 @@
+-- Each command's fields are put one behind another in the order of its layout; their sizes add up to the row's.
 use mathlib.Core.Path.{sym, ap, _∙_}
 use native.Mathlib.Omega.{arith}
 use borrow.Author.Needs.{needs}

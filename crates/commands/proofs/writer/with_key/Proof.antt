@@ -1,3 +1,4 @@
+-- Identifier, type and key, each put behind the last.
 use native.Mathlib.Omega.{arith}
 use borrow.Author.Needs.{needs}
 use Rattle.commands.proofs.writer.with_key.Statement.{statement}

@@ -1,3 +1,4 @@
+-- Octets laid behind the first ones of a line make a line of both.
 use native.Mathlib.Omega.{arith}
 use borrow.Author.Needs.{needs}
 use Rattle.commands.specs.Code.{lined}

@@ -1,3 +1,4 @@
+-- 1, 11 and 2 are the definition's tests, in its order: the frame's length is known from the row before it is laid.
 use mathlib.Core.Path.{sym, ap, _∙_}
 use mathlib.Core.Bool.{true}
 use native.Mathlib.Omega.{arith}

@@ -1,3 +1,4 @@
+-- Bit 7 first, then by type: each return is a way through the definition's tests.
 use Rattle.octets.proofs.Choices.{tests}
 use Rattle.frames.specs.Aps.{apsForm, apsType, delivery, ackFormat}
 use Rattle.frames.proofs.aps_header.form.Statement.{statement}

@@ -1,3 +1,4 @@
+-- By type, then by delivery or by the ack format: each return is a way through the definition's tests.
 use Rattle.octets.proofs.Choices.{tests}
 use Rattle.frames.specs.Aps.{apsHeader, apsType, delivery, ackFormat}
 use Rattle.frames.proofs.aps_header.header_length.Statement.{statement}

@@ -1,3 +1,4 @@
+-- The one test is the definition's.
 use mathlib.Core.Path.{refl}
 use Rattle.frames.specs.Aps.{apsKeyed}
 use Rattle.frames.proofs.aps_header.is_keyed.Statement.{statement}

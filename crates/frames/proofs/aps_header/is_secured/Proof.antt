@@ -1,3 +1,4 @@
+-- The quotient and the remainder are the definition's.
 use mathlib.Core.Path.{refl}
 use Rattle.frames.specs.Aps.{apsSecured}
 use Rattle.frames.proofs.aps_header.is_secured.Statement.{statement}

@@ -1,3 +1,4 @@
+-- Each layer's bit is taken off where it stands, as `cleared` says.
 use borrow.Author.Needs.{needs}
 use Rattle.frames.specs.Making.{cleared}
 use Rattle.frames.proofs.making.clear.Statement.{statement}

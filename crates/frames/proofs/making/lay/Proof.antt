@@ -1,3 +1,4 @@
+-- Where either is too short nothing is laid; else the first n octets are, and the octet i is set where it is one of them.
 use mathlib.Core.Path.{sym}
 use lib.Seq.{length-take-le}
 use borrow.Author.Needs.{needs}

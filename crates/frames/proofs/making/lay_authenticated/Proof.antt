@@ -1,3 +1,4 @@
+-- `lay` puts the security control with its level in place h: the octets that it lays are `authenticated`.
 use mathlib.Core.Path.{refl}
 use borrow.Author.Needs.{needs}
 use Rattle.settings.specs.Settings.{ours}

@@ -1,3 +1,4 @@
+-- `lay` puts the cleared octet in the bit's place: the octets that it lays are `plainHeader`.
 use borrow.Author.Needs.{needs}
 use Rattle.frames.specs.Making.{bitValue, cleared, plainHeader}
 use Rattle.frames.proofs.Layings.{laid-over}

@@ -1,3 +1,4 @@
+-- `lay` puts the marked octet in the bit's place: the octets that it lays are `securedHeader`.
 use borrow.Author.Needs.{needs}
 use Rattle.frames.specs.Making.{bitValue, marked, securedHeader}
 use Rattle.frames.proofs.Layings.{laid-over}

@@ -1,3 +1,4 @@
+-- Each layer's bit is cleared and then added, as `marked` says.
 use borrow.Author.Needs.{needs}
 use Rattle.frames.specs.Making.{cleared, marked}
 use Rattle.frames.proofs.making.mark.Statement.{statement}

@@ -1,3 +1,4 @@
+-- Each address bit adds 8 octets, so there are 24 at most.
 use mathlib.Core.Path.{refl}
 use native.Mathlib.Omega.{arith}
 use borrow.Author.Needs.{needs}

@@ -1,3 +1,4 @@
+-- The tests are the definition's, in its order.
 use Rattle.octets.proofs.Choices.{tests}
 use Rattle.frames.specs.Network.{networkForm}
 use Rattle.frames.proofs.network_header.form.Statement.{statement}

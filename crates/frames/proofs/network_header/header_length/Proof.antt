@@ -1,3 +1,4 @@
+-- The bit of a source route is the definition's test; its count stands where `base` says.
 use borrow.Author.Needs.{needs}
 use borrow.Author.Tests.{eq-eqb, ne-eqb}
 use Rattle.frames.specs.Network.{networkHeader}

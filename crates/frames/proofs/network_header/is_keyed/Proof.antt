@@ -1,3 +1,4 @@
+-- The two tests are the definition's.
 use Rattle.octets.proofs.Choices.{tests}
 use Rattle.frames.specs.Network.{networkKeyed}
 use Rattle.frames.proofs.network_header.is_keyed.Statement.{statement}

@@ -1,3 +1,4 @@
+-- The quotient and the remainder are the definition's.
 use mathlib.Core.Path.{refl}
 use Rattle.frames.specs.Network.{networkSecured}
 use Rattle.frames.proofs.network_header.is_secured.Statement.{statement}

@@ -1,3 +1,4 @@
+-- Each field is read where `announced` reads it.
 use borrow.Author.Needs.{needs}
 use Rattle.frames.specs.Security.{counterOf}
 use Rattle.frames.specs.Reading.{announced}

@@ -1,3 +1,4 @@
+-- Each layer asks its own rule of the identifier, and of the nonce bit where it has one.
 use borrow.Author.Needs.{needs}
 use Rattle.frames.proofs.reading.is_suited.Statement.{statement}
 use Rattle.frames.proofs.reading.is_suited.Tie as tie

@@ -1,3 +1,4 @@
+-- The one test is the definition's.
 use Rattle.octets.proofs.Choices.{tests}
 use Rattle.frames.specs.Reading.{readPlain}
 use Rattle.frames.proofs.reading.plain_behind.Statement.{statement}

@@ -1,3 +1,4 @@
+-- The four tests are those of `readSecured`, in its order; each rests on the promise of what was called for it.
 use mathlib.Core.Path.{_≡_, sym, ap, _∙_}
 use mathlib.Core.Bool.{true}
 use borrow.Author.Needs.{needs}

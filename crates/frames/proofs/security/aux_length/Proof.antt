@@ -1,3 +1,4 @@
+-- The extended nonce is a bit, so 6 + 8 or 5 + 8 octets at most; the identifier tells which of the two.
 use mathlib.Core.Path.{sym, _∙_}
 use native.Mathlib.Omega.{arith}
 use borrow.Author.Needs.{needs}

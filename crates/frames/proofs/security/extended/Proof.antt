@@ -1,3 +1,4 @@
+-- A shift divides, and a mask of one bit is the remainder by 2.
 use Prim.Native.Nat.{_/_}
 use lib.Bits.{and-mask}
 use Rattle.frames.specs.Security.{extendedOf}

@@ -1,3 +1,4 @@
+-- A shift divides, and a mask of two bits is the remainder by 4.
 use Prim.Native.Nat.{_/_}
 use lib.Bits.{and-mask}
 use Rattle.frames.specs.Security.{identifierOf}

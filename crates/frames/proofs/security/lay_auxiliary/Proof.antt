@@ -1,3 +1,4 @@
+-- With identifier 1 all 14 fields are the header; else the first 13, which leave the sequence number out.
 use mathlib.Core.Path.{ap, _∙_}
 use Prim.Native.Nat.{_%_}
 use borrow.Author.Needs.{needs}

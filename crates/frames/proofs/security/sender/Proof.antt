@@ -1,3 +1,4 @@
+-- The bit of the extended nonce is the definition's test.
 use borrow.Author.Needs.{needs}
 use borrow.Author.Tests.{eq-eqb, ne-eqb}
 use Rattle.frames.specs.Security.{senderOf}

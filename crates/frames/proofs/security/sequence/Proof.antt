@@ -1,3 +1,4 @@
+-- Identifier and extended nonce are those of the definition, which tests the one and counts by the other.
 use borrow.Author.Needs.{needs}
 use borrow.Author.Tests.{eq-eqb, ne-eqb}
 use Rattle.frames.specs.Security.{sequenceOf}

@@ -1,3 +1,4 @@
+-- Two bits of identifier, moved above the level, meet no bit of the extended nonce: or is a sum.
 use Prim.Native.Nat.{_%_}
 use native.Mathlib.Omega.{arith}
 use lib.Bits.{and-mask}

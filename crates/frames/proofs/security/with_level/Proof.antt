@@ -1,3 +1,4 @@
+-- The three lowest bits are masked out, so that the level is added and not mixed.
 use native.Mathlib.Omega.{arith}
 use Rattle.frames.specs.Security.{withLevel}
 use Rattle.frames.proofs.Controls.{level-laid}
