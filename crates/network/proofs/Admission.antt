@@ -48,7 +48,7 @@ module _ (z : Settings) (k : Key) (f : List ℕ) (s : Secured) where
     admit-plain u n r p eu e =
         let m = plain-tells z fair k Network f s (w .out) t room u n p eu e in
         ap₂ (λ (x : ℕ) (y : List ℕ).
-          leaving (opened x (s .sender) (under 1)) (record { lists = withRow (w .lists) r (s .sender) (s .counter + 1); out = y }))
+        leaving (opened x (s .sender) (under 1)) (record { lists = withRow (w .lists) r (s .sender) (s .counter + 1); out = y }))
         (m .count) (m .laid)
         ∙ sym (ap (λ (x : Verdict). admitted f s w x (At r)) (m .fits))
 

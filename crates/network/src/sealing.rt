@@ -29,7 +29,17 @@ fn seal_under(sending: Sending, s: Slot, f: &[u8], h: usize, out: &mut [u8]) -> 
         Outcome::Refused(r) => Sealed::Refused(r),
         Outcome::Done => {
             let key = s.key;
-            match seals::seal(key, Layer::Network, 1, sending.counter, sending.own, s.seq, f, h, out) {
+            match seals::seal(
+                key,
+                Layer::Network,
+                1,
+                sending.counter,
+                sending.own,
+                s.seq,
+                f,
+                h,
+                out,
+            ) {
                 Enclosed::Octets(n) => Sealed::Frame(n),
                 Enclosed::Nothing => Sealed::Refused(Refusal::Room),
             }
@@ -37,7 +47,14 @@ fn seal_under(sending: Sending, s: Slot, f: &[u8], h: usize, out: &mut [u8]) -> 
     }
 }
 
-fn seal_active(slots: [Slot; 2], i: usize, sending: Sending, f: &[u8], h: usize, out: &mut [u8]) -> Sealed
+fn seal_active(
+    slots: [Slot; 2],
+    i: usize,
+    sending: Sending,
+    f: &[u8],
+    h: usize,
+    out: &mut [u8],
+) -> Sealed
     requires { ⌜ ((2 ≤ h) × (h ≤ length (now f))) × ((length (now f) ≤ longestPlain ours) × (longest ≤ length (now out))) ⌝ }
     ensures { λ r. ⌜ ((b : Board) → b .slots ≡ slots → sendingOf b ≡ sending → framed (toldSealed r) (withOutgoing b (counterAfter (toldSealed r) (b .outgoing))) (now (out .exit)) ≡ sealedBy ours b (now (f .entry)) (now (out .entry)) h (Active.Slot i)) ⌝ }
 {
@@ -51,7 +68,14 @@ fn seal_active(slots: [Slot; 2], i: usize, sending: Sending, f: &[u8], h: usize,
     seal_under(sending, s, f, h, out)
 }
 
-fn seal_by(slots: [Slot; 2], active: Active, sending: Sending, f: &[u8], h: usize, out: &mut [u8]) -> Sealed
+fn seal_by(
+    slots: [Slot; 2],
+    active: Active,
+    sending: Sending,
+    f: &[u8],
+    h: usize,
+    out: &mut [u8],
+) -> Sealed
     requires { ⌜ ((2 ≤ h) × (h ≤ length (now f))) × ((length (now f) ≤ longestPlain ours) × (longest ≤ length (now out))) ⌝ }
     ensures { λ r. ⌜ ((b : Board) → b .slots ≡ slots → sendingOf b ≡ sending → framed (toldSealed r) (withOutgoing b (counterAfter (toldSealed r) (b .outgoing))) (now (out .exit)) ≡ sealedBy ours b (now (f .entry)) (now (out .entry)) h active) ⌝ }
 {

@@ -1,13 +1,16 @@
 use mathlib.Core.Path.{sym, ap, _∙_}
+use mathlib.Core.List.{List}
+use Prim.Native.Nat.{ℕ}
 use native.Mathlib.Omega.{arith}
 use lib.ListN.{length}
 use borrow.Author.Needs.{needs}
 use borrow.Author.Tests.{lt-ltb, le-ltb, lt-leb, le-leb, not-true, not-false}
 use Rattle.octets.proofs.Pasted.{pasted-onto}
-use Rattle.network.specs.Opening.{gave, openNetwork, openedRead}
-use Rattle.answers.specs.Numbers.{opened}
-use Rattle.answers.specs.Numbers.{clear}
+use Rattle.network.specs.Opening.{lent, leaving, openNetwork, openedRead}
+use Rattle.settings.specs.Settings.{ours}
+use Rattle.answers.specs.Numbers.{opened, clear}
 use Rattle.frames.specs.Reading.{toldRead}
+use Rattle.board.specs.Rows.{lists}
 use Rattle.board.proofs.Found.{lists-long}
 use Rattle.network.proofs.Admission.{read-sound}
 use Rattle.network.proofs.opening.open_frame.Statement.{statement}
@@ -49,8 +52,8 @@ returns-3 c =
       lt-ltb _ _ (c .if3 .taken),
     )
 
-read-network-requires : tie.Need-read-network-requires
-read-network-requires c κs = search needs
+read-frame-requires : tie.Need-read-frame-requires
+read-frame-requires c κs = search needs
 
 enum-known-r : tie.Need-enum-known-r
 enum-known-r c = search needs
@@ -67,13 +70,13 @@ enum-known-s c = search needs
 open-keyed-requires : tie.Need-open-keyed-requires
 open-keyed-requires c κs =
     let after-s : tie.After-s = search in
-    let after-read-network : tie.After-read-network = search in
+    let after-read-frame : tie.After-read-frame = search in
     let else3 : tie.Else3 = search in
     let else2 : tie.Else2 = search in
     let else1 : tie.Else1 = search in
     let start : tie.Start = search in
-    let long = lists-long 32 _ _ (sym (else2 .before .lists-fit .ensures) ∙ not-false _ (else2 .if2 .left)) in (
-      read-sound (start .args .f .now) _ (sym (after-read-network .read-network .ensures) ∙ ap toldRead (after-s .s .given .1))
+    let long = lists-long ours (lists (start .args .addrs .now) (start .args .floors .now)) (sym (else2 .before .lists-fit .ensures) ∙ not-false _ (else2 .if2 .left)) in (
+      read-sound ours (start .args .frame .now) _ (sym (after-read-frame .read-frame .ensures) ∙ ap toldRead (after-s .s .given .1))
           (else3 .if3 .left),
       (else1 .if1 .left, long .0 ∙ sym (long .1)),
     )
@@ -87,7 +90,7 @@ same-length-6 c = search needs
 returns-4 : tie.Need-returns-4
 unfolding openNetwork openedRead
 returns-4 c =
-    let after-read-network : tie.After-read-network = search in
+    let after-read-frame : tie.After-read-frame = search in
     let else3 : tie.Else3 = search in
     let else2 : tie.Else2 = search in
     let else1 : tie.Else1 = search in
@@ -95,7 +98,7 @@ returns-4 c =
       le-leb _ _ (else1 .if1 .left),
       sym (else2 .before .lists-fit .ensures) ∙ not-false _ (else2 .if2 .left),
       le-ltb _ _ (else3 .if3 .left),
-      sym (after-read-network .read-network .ensures) ∙ ap toldRead (c .before .r .given .1),
+      sym (after-read-frame .read-frame .ensures) ∙ ap toldRead (c .before .r .given .1),
     )
 
 same-length-7 : tie.Need-same-length-7
@@ -114,7 +117,7 @@ returns-5 c =
     let y = start .args in
     let after-paste-at : tie.After-paste-at = search in
     let after-enum-told : tie.After-enum-told = search in
-    let after-read-network : tie.After-read-network = search in
+    let after-read-frame : tie.After-read-frame = search in
     let else3 : tie.Else3 = search in
     let else2 : tie.Else2 = search in
     let else1 : tie.Else1 = search in
@@ -122,10 +125,10 @@ returns-5 c =
       le-leb _ _ (else1 .if1 .left),
       sym (else2 .before .lists-fit .ensures) ∙ not-false _ (else2 .if2 .left),
       le-ltb _ _ (else3 .if3 .left),
-      sym (after-read-network .read-network .ensures) ∙ ap toldRead (after-enum-told .enum-told .given .1),
+      sym (after-read-frame .read-frame .ensures) ∙ ap toldRead (after-enum-told .enum-told .given .1),
     )
-    (ap (gave (opened (length (y .f .now)) 0 clear) (y .addrs .now) (y .floors .now))
-    (pasted-onto _ (y .out .now) (y .f .now) (after-paste-at .paste-at .ensures) (omega (arith, else1 .if1 .left, else3 .if3 .left))))
+    (ap (λ (x : List ℕ). leaving (opened (length (y .frame .now)) 0 clear) (lent (y .addrs .now) (y .floors .now) x))
+    (pasted-onto _ (y .out .now) (y .frame .now) (after-paste-at .paste-at .ensures) (omega (arith, else1 .if1 .left, else3 .if3 .left))))
 
 same-length-10 : tie.Need-same-length-10
 same-length-10 c = search needs
@@ -141,7 +144,7 @@ unfolding openNetwork openedRead
 returns-6 c =
     let after-open-keyed : tie.After-open-keyed = search in
     let after-s : tie.After-s = search in
-    let after-read-network : tie.After-read-network = search in
+    let after-read-frame : tie.After-read-frame = search in
     let else3 : tie.Else3 = search in
     let else2 : tie.Else2 = search in
     let else1 : tie.Else1 = search in
@@ -149,7 +152,7 @@ returns-6 c =
       le-leb _ _ (else1 .if1 .left),
       sym (else2 .before .lists-fit .ensures) ∙ not-false _ (else2 .if2 .left),
       le-ltb _ _ (else3 .if3 .left),
-      sym (after-read-network .read-network .ensures) ∙ ap toldRead (after-s .s .given .1),
+      sym (after-read-frame .read-frame .ensures) ∙ ap toldRead (after-s .s .given .1),
     )
     (after-open-keyed .open-keyed .ensures)
 
@@ -165,7 +168,7 @@ open-frame-spec =
     same-length-3
     same-length-4
     returns-3
-    read-network-requires
+    read-frame-requires
     enum-known-r
     enum-told
     paste-at-requires
