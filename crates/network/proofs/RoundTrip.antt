@@ -14,8 +14,9 @@ use Rattle.octets.specs.Addresses.{noAddress}
 use Rattle.octets.specs.Keys.{Key, theKey}
 use Rattle.octets.specs.Lists.{onto, Octets}
 use Rattle.network.specs.Sealing.{identifier, sealNetwork}
-use Rattle.network.specs.Opening.{Lent, Opening, leaving, floorOf, rowFor, withRow, admitted, openedUnder, openedKeyed, openedRead, openNetwork}
-use Rattle.answers.specs.Numbers.{under, opened, sealed, turnedDown}
+use Rattle.network.specs.Opening.{Lent, Opening, leaving, floorOf, rowFor, withRow}
+use Rattle.network.specs.Opening.{admitted, openedUnder, openedKeyed, openedRead, openNetwork}
+use Rattle.answers.specs.Numbers.{under, opened, sealed}
 use Rattle.cipher.specs.Ccm.{Verdict, valid}
 use Rattle.cipher.proofs.Opens.{tag-most}
 use Rattle.frames.specs.declared.Layer.the-variants.{Network}
@@ -30,7 +31,7 @@ use Rattle.board.specs.State.{slotAt}
 use Rattle.board.specs.Requests.{slotOf}
 use Rattle.seals.specs.Sealing.{Fair, sentOctets, sealedFrame}
 use Rattle.seals.proofs.Again.{ToSeal, announcing, read-again, message-again, plain-again, length-again}
-use Rattle.network.proofs.Ways.{Sealing, sent, sent-length, seal-ways}
+use Rattle.network.proofs.Ways.{Sealing, frameSent, frame-length, seal-ways}
 use Rattle.board.specs.declared.Active.the-variants as actives
 
 -- ---- one frame
@@ -94,19 +95,19 @@ module _ (z : Settings) (fair : Fair z) (key : Key) (f : List ℕ) (h n a q : �
 
 -- what a seal that succeeded tells: that the frame passed every check, the length answered, the board left, and in the output
 -- the frame that it makes
-pub record Sealed (z : Settings) (b : Board) (f o : List ℕ) (m : ℕ) (r : Framed) : Type 0 where
+pub record SealTells (z : Settings) (b : Board) (f o : List ℕ) (m : ℕ) (r : Framed) : Type 0 where
   pub by : Sealing z b f
   pub count : m ≡ length f + networkAux + z .tag
   pub board : r .board ≡ spent b
-  pub out : r .out ≡ onto (sent z b f by) o
+  pub out : r .out ≡ onto (frameSent z b f by) o
 
 pub seal-tells : (z : Settings) (b : Board) (f o : List ℕ) (m : ℕ) → sealNetwork z b f o .answer ≡ sealed m
-    → Sealed z b f o m (sealNetwork z b f o)
+    → SealTells z b f o m (sealNetwork z b f o)
 unfolding sentOctets
 seal-tells z b f o m =
-    seal-ways z b f o (λ (r : Framed). r .answer ≡ sealed m → Sealed z b f o m r)
+    seal-ways z b f o (λ (r : Framed). r .answer ≡ sealed m → SealTells z b f o m r)
     (λ n e. let never : _≡_ {A = ℕ} 0 1 = cc in absurd (omega arith))
-    λ s e. let u : length (sent z b f s) ≡ m = cc in record { by = s; count = sym u ∙ sent-length z b f s; board = refl; out = refl }
+    λ s e. let u : length (frameSent z b f s) ≡ m = cc in record { by = s; count = sym u ∙ frame-length z b f s; board = refl; out = refl }
 
 -- the frame that b sealed under its active slot i, opened by c
 pub round-trip : (z : Settings) → Fair z → (b : Board) (f o : List ℕ) (m i : ℕ) → Octets f → b .outgoing < 2 ^ 32 → b .own < 2 ^ 64
@@ -120,7 +121,7 @@ round-trip z fair b f o m i of hn ha ho e ea c w j r opens =
     ∙ opens-again z fair (theKey (slotAt (b .slots) (t .slot) .key)) f (t .header) (b .outgoing) (b .own) (slotAt (b .slots) (t .slot) .seq)
     sealedSo (t .short) (t .below) c w j r found
   where
-    tells : Sealed z b f o m (sealNetwork z b f o)
+    tells : SealTells z b f o m (sealNetwork z b f o)
     tells = seal-tells z b f o m e
 
     t : Sealing z b f
@@ -136,8 +137,8 @@ round-trip z fair b f o m i of hn ha ho e ea c w j r opens =
     sealedSo : ToSeal Network f (t .header) identifier (b .outgoing) (b .own)
     sealedSo = record { unsecured = t .unsecured; octets = of; suited = refl; counter = hn; sender = ha; someone = ho }
 
-    counted : length (sent z b f t) ≡ m
-    counted = sent-length z b f t ∙ sym (tells .count)
+    counted : length (frameSent z b f t) ≡ m
+    counted = frame-length z b f t ∙ sym (tells .count)
 
-    front : take m (sealNetwork z b f o .out) ≡ sent z b f t
-    front = ap (take m) (tells .out) ∙ take-at (sent z b f t) (drop (length (sent z b f t)) o) m counted
+    front : take m (sealNetwork z b f o .out) ≡ frameSent z b f t
+    front = ap (take m) (tells .out) ∙ take-at (frameSent z b f t) (drop (length (frameSent z b f t)) o) m counted

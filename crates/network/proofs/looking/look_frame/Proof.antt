@@ -1,3 +1,4 @@
+-- The length is judged first, then what the frame was read as decides, in code and definition alike.
 use mathlib.Core.Path.{sym, ap, _∙_}
 use borrow.Author.Needs.{needs}
 use borrow.Author.Tests.{lt-ltb, le-ltb}

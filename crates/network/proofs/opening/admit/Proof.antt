@@ -1,3 +1,4 @@
+-- What `unseal` answers tells whether the tag fits; lists and floor change in that case alone.
 use borrow.Author.Needs.{needs}
 use Rattle.settings.specs.Settings.{ours}
 use Rattle.octets.specs.Keys.{theKey}

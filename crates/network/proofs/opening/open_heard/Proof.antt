@@ -1,4 +1,4 @@
--- The counter is judged against the floor of the sender's row, before the tag.
+-- The floor read is that of the sender's row, and the test of the counter is the definition's.
 use borrow.Author.Needs.{needs}
 use borrow.Author.Tests.{lt-ltb, le-ltb}
 use Rattle.network.specs.Code.{openedHeard}

@@ -1,4 +1,4 @@
--- The row is the lowest free one of the slot: the first with address 0.
+-- The row is the lowest with address 0, which is the definition's free row; that the lists have it is what a search tells.
 use mathlib.Core.Path.{sym, _∙_}
 use Prim.Native.Nat.{_<_}
 use native.Mathlib.Omega.{arith}

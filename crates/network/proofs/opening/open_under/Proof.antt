@@ -1,5 +1,5 @@
--- The sender's row is looked for once: where there is one, floor and row are that one's; where there is none, the floor is 0.
-use mathlib.Core.Path.{_≡_, sym, _∙_}
+-- The row is looked for once: where there is one, floor and row are that one's; where there is none, the floor is 0.
+use mathlib.Core.Path.{sym, _∙_}
 use Prim.Native.Nat.{_<_}
 use native.Mathlib.Omega.{arith}
 use lib.ListN.{length}

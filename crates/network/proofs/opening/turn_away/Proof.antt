@@ -1,3 +1,4 @@
+-- `look` tells whether the tag fits, and `admitted` without a row is 10 or 9 by just that.
 use mathlib.Core.Path.{sym, _∙_}
 use mathlib.Core.Bool.{true, false}
 use borrow.Author.Needs.{needs}

@@ -1,3 +1,4 @@
+-- The two tests are the definition's; the board's slots are those that were handed in.
 use mathlib.Core.Path.{ap, _∙_, sym}
 use mathlib.Core.List.{List}
 use borrow.Author.Tests.{le-leb, lt-leb, not-true, not-false}

@@ -1,3 +1,4 @@
+-- The active mark decides, in code and definition alike.
 use Rattle.network.specs.Sealing.{sealedBy}
 use borrow.Author.Needs.{needs}
 use Rattle.network.proofs.sealing.seal_by.Statement.{statement}

@@ -1,3 +1,4 @@
+-- The stages were handed this board's own parts, and the counter behind the answer is the definition's.
 use mathlib.Core.Path.{refl}
 use Rattle.board.proofs.Leaves.{counted}
 use borrow.Author.Needs.{needs}

@@ -1,3 +1,4 @@
+-- Each refusal is the definition's test of the same place; the header that was read is within the frame.
 use mathlib.Core.Path.{sym, ap, _∙_}
 use borrow.Author.Tests.{lt-ltb, le-ltb}
 use Rattle.network.specs.Sealing.{sealNetwork, sealedRead, sealedBy}

@@ -1,4 +1,4 @@
--- The counter is judged before the key is used; that the frame can be sealed was judged before.
+-- The counter is judged before the key is used; that the frame can be sealed was judged before, so `seal` makes it.
 use mathlib.Core.Path.{sym, ap, _∙_}
 use native.Mathlib.Omega.{arith}
 use borrow.Author.Needs.{needs}
