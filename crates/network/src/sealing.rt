@@ -29,11 +29,12 @@ fn seal_under(sending: Sending, s: Slot, f: &[u8], h: usize, out: &mut [u8]) -> 
         Outcome::Refused(r) => Sealed::Refused(r),
         Outcome::Done => {
             let key = s.key;
+            let counter = sending.counter;
             match seals::seal(
                 key,
                 Layer::Network,
                 1,
-                sending.counter,
+                counter,
                 sending.own,
                 s.seq,
                 f,
