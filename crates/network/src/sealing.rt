@@ -30,17 +30,8 @@ fn seal_under(sending: Sending, s: Slot, f: &[u8], h: usize, out: &mut [u8]) -> 
         Outcome::Done => {
             let key = s.key;
             let counter = sending.counter;
-            match seals::seal(
-                key,
-                Layer::Network,
-                1,
-                counter,
-                sending.own,
-                s.seq,
-                f,
-                h,
-                out,
-            ) {
+            let own = sending.own;
+            match seals::seal(key, Layer::Network, 1, counter, own, s.seq, f, h, out) {
                 Enclosed::Octets(n) => Sealed::Frame(n),
                 Enclosed::Nothing => Sealed::Refused(Refusal::Room),
             }
