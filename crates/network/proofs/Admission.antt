@@ -5,12 +5,12 @@ use mathlib.Core.Bool.{Bool, true}
 use mathlib.Core.List.{List}
 use Prim.Native.Nat.{ℕ, _+_, _*_, _≤_, _<_}
 use native.Mathlib.Omega.{arith}
-use lib.ListN.{length, set}
+use lib.ListN.{length}
 use borrow.Author.Tests.{ne-eqb, le-ltb}
 use Rattle.settings.specs.Settings.{Settings, longest, top}
 use Rattle.octets.specs.Choice.{if_then_else_, both}
 use Rattle.octets.specs.Keys.{Key}
-use Rattle.network.specs.Opening.{Lent, lent, leaving, rowOf, floorAt, floorOf, orFree, rowFor, withRow, admitted, openedUnder}
+use Rattle.network.specs.Opening.{Lent, leaving, rowOf, floorOf, orFree, rowFor, withRow, admitted, openedUnder}
 use Rattle.network.specs.Code.{openedHeard}
 use Rattle.answers.specs.Numbers.{under, opened, turnedDown}
 use Rattle.cipher.specs.Answers.{product}
@@ -21,7 +21,7 @@ use Rattle.frames.specs.Reading.{secured, reading}
 use Rattle.frames.proofs.Found.{secured-frame}
 use Rattle.board.specs.declared.Place.{Place}
 use Rattle.board.specs.declared.Place.the-variants.{At, Absent}
-use Rattle.board.specs.Rows.{Lists, findRow}
+use Rattle.board.specs.Rows.{Lists}
 use Rattle.board.proofs.Found.{row-place}
 use Rattle.seals.specs.declared.Unsealed.{Unsealed}
 use Rattle.seals.specs.declared.Unsealed.the-variants.{Plain, Forged}
@@ -53,7 +53,8 @@ module _ (z : Settings) (k : Key) (f : List ℕ) (s : Secured) where
         ∙ sym (ap (λ (x : Verdict). admitted f s w x (At r)) (m .fits))
 
     -- the tag does not fit
-    pub admit-forged : (u : Unsealed) (q : Place) (p : List ℕ) → u ≡ Forged → product (toldUnsealed u) p ≡ unsealing z k Network f s (w .out)
+    pub admit-forged : (u : Unsealed) (q : Place) (p : List ℕ) → u ≡ Forged
+        → product (toldUnsealed u) p ≡ unsealing z k Network f s (w .out)
         → leaving (turnedDown 9) (record { lists = w .lists; out = p }) ≡ admitted f s w (messageOf z k f s) q
     unfolding admitted
     admit-forged u q p eu e =

@@ -7,9 +7,8 @@ use native.Mathlib.Omega.{arith}
 use lib.ListN.{length}
 use Rattle.settings.specs.Settings.{Settings, longest, longestPlain}
 use Rattle.octets.specs.Keys.{theKey}
-use Rattle.octets.specs.Lists.{onto}
 use Rattle.network.specs.Sealing.{identifier, sealedUnder}
-use Rattle.answers.specs.Numbers.{Told, done, refused, sealed, turnedDown}
+use Rattle.answers.specs.Numbers.{done, refused, sealed, turnedDown}
 use Rattle.cipher.specs.Answers.{product}
 use Rattle.cipher.proofs.Opens.{tag-most}
 use Rattle.frames.specs.declared.Layer.the-variants.{Network}

@@ -13,7 +13,8 @@ use Rattle.octets.specs.Choice.{both}
 use Rattle.octets.specs.Keys.{theKey}
 use Rattle.octets.specs.Lists.{onto}
 use Rattle.network.specs.Sealing.{identifier, sealedUnder, sealedBy, sealedRead, sealNetwork}
-use Rattle.network.specs.Opening.{Lent, Opening, leaving, floorOf, rowFor, withRow, admitted, openedUnder, openedKeyed, openedRead, openNetwork}
+use Rattle.network.specs.Opening.{Lent, Opening, leaving, floorOf, rowFor, withRow}
+use Rattle.network.specs.Opening.{admitted, openedUnder, openedKeyed, openedRead, openNetwork}
 use Rattle.answers.specs.Numbers.{clear, under, opened, sealed, turnedDown}
 use Rattle.cipher.specs.Ccm.{Verdict, valid, invalid}
 use Rattle.frames.specs.declared.Layer.the-variants.{Network}
@@ -44,7 +45,8 @@ module _ (z : Settings) (b : Board) (f : List ℕ) (w : Lent) where
     pub row : rowFor z (w .lists) i (s .sender) ≡ At r
 
   pub open-ways : (P : Opening → Type 0) → ((n : ℕ) → P (leaving (turnedDown n) w))
-      → ((n : ℕ) (p : List ℕ) → reading z Network f 0 ≡ plain n → P (leaving (opened (length f) 0 clear) (record { lists = w .lists; out = p })))
+      → ((n : ℕ) (p : List ℕ) → reading z Network f 0 ≡ plain n
+      → P (leaving (opened (length f) 0 clear) (record { lists = w .lists; out = p })))
       → ((s : Secured) (i r n : ℕ) (p : List ℕ) → Passed s i r
       → P (leaving (opened n (s .sender) (under 1)) (record { lists = withRow (w .lists) r (s .sender) (s .counter + 1); out = p })))
       → P (openNetwork z b f w)
@@ -90,16 +92,16 @@ module _ (z : Settings) (b : Board) (f : List ℕ) where
     pub below : b .outgoing ≡ top → ⊥
 
   -- the frame that it makes: under that slot's key, with that slot's sequence number
-  abbrev pub sent : Sealing → List ℕ
-  sent s =
+  abbrev pub frameSent : Sealing → List ℕ
+  frameSent s =
       sealedFrame z (theKey (slotAt (b .slots) (s .slot) .key)) Network identifier (b .outgoing) (b .own)
       (slotAt (b .slots) (s .slot) .seq) f (s .header)
 
-  pub sent-length : (s : Sealing) → length (sent s) ≡ length f + sentOctets identifier + z .tag
-  sent-length s = sealed-length z _ Network identifier _ _ _ f (s .header) (plain-to-seal Network f (s .header) (s .unsecured) .within)
+  pub frame-length : (s : Sealing) → length (frameSent s) ≡ length f + sentOctets identifier + z .tag
+  frame-length s = sealed-length z _ Network identifier _ _ _ f (s .header) (plain-to-seal Network f (s .header) (s .unsecured) .within)
 
   pub seal-ways : (o : List ℕ) (P : Framed → Type 0) → ((n : ℕ) → P (framed (turnedDown n) b o))
-      → ((s : Sealing) → P (framed (sealed (length (sent s))) (spent b) (onto (sent s) o))) → P (sealNetwork z b f o)
+      → ((s : Sealing) → P (framed (sealed (length (frameSent s))) (spent b) (onto (frameSent s) o))) → P (sealNetwork z b f o)
   unfolding sealNetwork sealedRead sealedBy sealedUnder
   seal-ways o P down made =
       choose P (ltb (length o) longest) _ _ (λ _. down 1) λ _.

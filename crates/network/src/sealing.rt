@@ -29,17 +29,9 @@ fn seal_under(sending: Sending, s: Slot, f: &[u8], h: usize, out: &mut [u8]) -> 
         Outcome::Refused(r) => Sealed::Refused(r),
         Outcome::Done => {
             let key = s.key;
-            match seals::seal(
-                key,
-                Layer::Network,
-                1,
-                sending.counter,
-                sending.own,
-                s.seq,
-                f,
-                h,
-                out,
-            ) {
+            let counter = sending.counter;
+            let own = sending.own;
+            match seals::seal(key, Layer::Network, 1, counter, own, s.seq, f, h, out) {
                 Enclosed::Octets(n) => Sealed::Frame(n),
                 Enclosed::Nothing => Sealed::Refused(Refusal::Room),
             }

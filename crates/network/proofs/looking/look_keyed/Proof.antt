@@ -1,3 +1,4 @@
+-- The place that `slot_of` answers decides; that it is a slot is what a search tells of its answer.
 use mathlib.Core.Path.{sym, _∙_}
 use native.Mathlib.Omega.{arith}
 use borrow.Author.Needs.{needs}

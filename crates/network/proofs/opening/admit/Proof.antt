@@ -1,4 +1,9 @@
+-- What `unseal` answers tells whether the tag fits; lists and floor change in that case alone.
 use borrow.Author.Needs.{needs}
+use Rattle.settings.specs.Settings.{ours}
+use Rattle.octets.specs.Keys.{theKey}
+use Rattle.seals.proofs.Fairly.{ours-fair}
+use Rattle.network.specs.Opening.{lent}
 use Rattle.network.proofs.Admission.{admit-plain, admit-forged}
 use Rattle.network.proofs.opening.admit.Statement.{statement}
 use Rattle.network.proofs.opening.admit.Tie as tie
@@ -42,7 +47,8 @@ returns c =
     let y = x .args in
     let after-n : tie.After-n = search in
     let after-unseal : tie.After-unseal = search in
-    admit-plain (y .key) (y .f .now) (y .s) (y .addrs .now) (y .floors .now) (y .out .now) (x .pre .0 .0) (x .pre .0 .1 .0) _
+    let w = lent (y .addrs .now) (y .floors .now) (y .out .now) in
+    admit-plain ours (theKey (y .key)) (y .f .now) (y .s) ours-fair w (x .pre .0 .0) (x .pre .0 .1 .0) _
     (after-n .n .given .0 .0) (y .r) _ (after-n .n .given .1) (after-unseal .unseal .ensures)
 
 same-length-4 : tie.Need-same-length-4
@@ -53,7 +59,8 @@ returns-2 c =
     let x : tie.Start = search in
     let y = x .args in
     let after-unseal : tie.After-unseal = search in
-    admit-forged (y .key) (y .f .now) (y .s) (y .addrs .now) (y .floors .now) (y .out .now) (x .pre .0 .0) (x .pre .0 .1 .0) _ _ _
+    let w = lent (y .addrs .now) (y .floors .now) (y .out .now) in
+    admit-forged ours (theKey (y .key)) (y .f .now) (y .s) ours-fair w (x .pre .0 .0) (x .pre .0 .1 .0) _ _ _
     (c .enum-told .given .1) (after-unseal .unseal .ensures)
 
 pub admit-spec : {M : Type 1} → statement M

@@ -1,13 +1,19 @@
-use mathlib.Core.Path.{sym, ap, _∙_}
+-- Each refusal is the definition's test of the same place, and a frame that was read as secured is what it announces.
+use mathlib.Core.Path.{_≡_, sym, ap, _∙_}
+use mathlib.Core.Bool.{true, false}
+use mathlib.Core.List.{List}
+use Prim.Native.Nat.{ℕ}
 use native.Mathlib.Omega.{arith}
+use lib.Dec.{leb, ltb}
 use lib.ListN.{length}
 use borrow.Author.Needs.{needs}
 use borrow.Author.Tests.{lt-ltb, le-ltb, lt-leb, le-leb, not-true, not-false}
 use Rattle.octets.proofs.Pasted.{pasted-onto}
-use Rattle.network.specs.Opening.{gave, openNetwork, openedRead}
-use Rattle.answers.specs.Numbers.{opened}
-use Rattle.answers.specs.Numbers.{clear}
+use Rattle.network.specs.Opening.{lent, leaving, openNetwork, openedRead}
+use Rattle.settings.specs.Settings.{ours, longest}
+use Rattle.answers.specs.Numbers.{opened, clear}
 use Rattle.frames.specs.Reading.{toldRead}
+use Rattle.board.specs.Rows.{lists, listsFit}
 use Rattle.board.proofs.Found.{lists-long}
 use Rattle.network.proofs.Admission.{read-sound}
 use Rattle.network.proofs.opening.open_frame.Statement.{statement}
@@ -16,6 +22,17 @@ use Rattle.network.proofs.opening.open_frame.Tie as tie
 returns : tie.Need-returns
 unfolding openNetwork
 returns c = simp (lt-leb _ _ (c .if1 .taken))
+
+-- what the tests before have shown: there is room, the lists fit, the frame is not too long
+
+room : (c : tie.Else1) → let start : tie.Start = search in leb longest (length (start .args .out .now)) ≡ true
+room c = le-leb _ _ (c .if1 .left)
+
+fit : (c : tie.Else2) → let start : tie.Start = search in listsFit ours (lists (start .args .addrs .now) (start .args .floors .now)) ≡ true
+fit c = sym (c .before .lists-fit .ensures) ∙ not-false _ (c .if2 .left)
+
+short : (c : tie.Else3) → let start : tie.Start = search in ltb longest (length (start .args .frame .now)) ≡ false
+short c = le-ltb _ _ (c .if3 .left)
 
 lists-fit-requires : tie.Need-lists-fit-requires
 lists-fit-requires c κs = search needs
@@ -29,8 +46,7 @@ same-length-2 c = search needs
 returns-2 : tie.Need-returns-2
 unfolding openNetwork
 returns-2 c =
-    let else1 : tie.Else1 = search in
-    simp (le-leb _ _ (else1 .if1 .left), sym (c .before .lists-fit .ensures) ∙ not-true _ (c .if2 .taken))
+    simp (room (search), sym (c .before .lists-fit .ensures) ∙ not-true _ (c .if2 .taken))
 
 same-length-3 : tie.Need-same-length-3
 same-length-3 c = search needs
@@ -41,16 +57,10 @@ same-length-4 c = search needs
 returns-3 : tie.Need-returns-3
 unfolding openNetwork
 returns-3 c =
-    let else2 : tie.Else2 = search in
-    let else1 : tie.Else1 = search in
-    simp (
-      le-leb _ _ (else1 .if1 .left),
-      sym (else2 .before .lists-fit .ensures) ∙ not-false _ (else2 .if2 .left),
-      lt-ltb _ _ (c .if3 .taken),
-    )
+    simp (room (search), fit (search), lt-ltb _ _ (c .if3 .taken))
 
-read-network-requires : tie.Need-read-network-requires
-read-network-requires c κs = search needs
+read-frame-requires : tie.Need-read-frame-requires
+read-frame-requires c κs = search needs
 
 enum-known-r : tie.Need-enum-known-r
 enum-known-r c = search needs
@@ -67,13 +77,12 @@ enum-known-s c = search needs
 open-keyed-requires : tie.Need-open-keyed-requires
 open-keyed-requires c κs =
     let after-s : tie.After-s = search in
-    let after-read-network : tie.After-read-network = search in
+    let after-read-frame : tie.After-read-frame = search in
     let else3 : tie.Else3 = search in
-    let else2 : tie.Else2 = search in
     let else1 : tie.Else1 = search in
     let start : tie.Start = search in
-    let long = lists-long 32 _ _ (sym (else2 .before .lists-fit .ensures) ∙ not-false _ (else2 .if2 .left)) in (
-      read-sound (start .args .f .now) _ (sym (after-read-network .read-network .ensures) ∙ ap toldRead (after-s .s .given .1))
+    let long = lists-long ours _ (fit (search)) in (
+      read-sound ours (start .args .frame .now) _ (sym (after-read-frame .read-frame .ensures) ∙ ap toldRead (after-s .s .given .1))
           (else3 .if3 .left),
       (else1 .if1 .left, long .0 ∙ sym (long .1)),
     )
@@ -87,15 +96,12 @@ same-length-6 c = search needs
 returns-4 : tie.Need-returns-4
 unfolding openNetwork openedRead
 returns-4 c =
-    let after-read-network : tie.After-read-network = search in
-    let else3 : tie.Else3 = search in
-    let else2 : tie.Else2 = search in
-    let else1 : tie.Else1 = search in
+    let after-read-frame : tie.After-read-frame = search in
     simp (
-      le-leb _ _ (else1 .if1 .left),
-      sym (else2 .before .lists-fit .ensures) ∙ not-false _ (else2 .if2 .left),
-      le-ltb _ _ (else3 .if3 .left),
-      sym (after-read-network .read-network .ensures) ∙ ap toldRead (c .before .r .given .1),
+      room (search),
+      fit (search),
+      short (search),
+      sym (after-read-frame .read-frame .ensures) ∙ ap toldRead (c .before .r .given .1),
     )
 
 same-length-7 : tie.Need-same-length-7
@@ -114,18 +120,17 @@ returns-5 c =
     let y = start .args in
     let after-paste-at : tie.After-paste-at = search in
     let after-enum-told : tie.After-enum-told = search in
-    let after-read-network : tie.After-read-network = search in
+    let after-read-frame : tie.After-read-frame = search in
     let else3 : tie.Else3 = search in
-    let else2 : tie.Else2 = search in
     let else1 : tie.Else1 = search in
     simp (
-      le-leb _ _ (else1 .if1 .left),
-      sym (else2 .before .lists-fit .ensures) ∙ not-false _ (else2 .if2 .left),
-      le-ltb _ _ (else3 .if3 .left),
-      sym (after-read-network .read-network .ensures) ∙ ap toldRead (after-enum-told .enum-told .given .1),
+      room (search),
+      fit (search),
+      short (search),
+      sym (after-read-frame .read-frame .ensures) ∙ ap toldRead (after-enum-told .enum-told .given .1),
     )
-    (ap (gave (opened (length (y .f .now)) 0 clear) (y .addrs .now) (y .floors .now))
-    (pasted-onto _ (y .out .now) (y .f .now) (after-paste-at .paste-at .ensures) (omega (arith, else1 .if1 .left, else3 .if3 .left))))
+    (ap (λ (x : List ℕ). leaving (opened (length (y .frame .now)) 0 clear) (lent (y .addrs .now) (y .floors .now) x))
+    (pasted-onto _ (y .out .now) (y .frame .now) (after-paste-at .paste-at .ensures) (omega (arith, else1 .if1 .left, else3 .if3 .left))))
 
 same-length-10 : tie.Need-same-length-10
 same-length-10 c = search needs
@@ -141,15 +146,12 @@ unfolding openNetwork openedRead
 returns-6 c =
     let after-open-keyed : tie.After-open-keyed = search in
     let after-s : tie.After-s = search in
-    let after-read-network : tie.After-read-network = search in
-    let else3 : tie.Else3 = search in
-    let else2 : tie.Else2 = search in
-    let else1 : tie.Else1 = search in
+    let after-read-frame : tie.After-read-frame = search in
     simp (
-      le-leb _ _ (else1 .if1 .left),
-      sym (else2 .before .lists-fit .ensures) ∙ not-false _ (else2 .if2 .left),
-      le-ltb _ _ (else3 .if3 .left),
-      sym (after-read-network .read-network .ensures) ∙ ap toldRead (after-s .s .given .1),
+      room (search),
+      fit (search),
+      short (search),
+      sym (after-read-frame .read-frame .ensures) ∙ ap toldRead (after-s .s .given .1),
     )
     (after-open-keyed .open-keyed .ensures)
 
@@ -165,7 +167,7 @@ open-frame-spec =
     same-length-3
     same-length-4
     returns-3
-    read-network-requires
+    read-frame-requires
     enum-known-r
     enum-told
     paste-at-requires

@@ -1,3 +1,4 @@
+-- The place that `slot_of` answers decides; that it is a slot is what a search tells of its answer.
 use mathlib.Core.Path.{sym, _∙_}
 use native.Mathlib.Omega.{arith}
 use borrow.Author.Needs.{needs}
@@ -24,7 +25,7 @@ open-under-requires c κs =
     let after-slot-of : tie.After-slot-of = search in
     let start : tie.Start = search in
     let place = slot-place _ _ _ (sym (after-slot-of .slot-of .ensures) ∙ after-i .i .given .1) in
-    ((start .pre .0, (start .pre .1 .0, place)), start .pre .1 .1)
+    ((start .pre .0, start .pre .1 .0), (place, start .pre .1 .1))
 
 enum-told : tie.Need-enum-told
 enum-told c = search needs

@@ -1,3 +1,4 @@
+-- The stages were handed this board's own parts, and the counter behind the answer is the definition's.
 use mathlib.Core.Path.{refl}
 use Rattle.board.proofs.Leaves.{counted}
 use borrow.Author.Needs.{needs}
@@ -17,7 +18,7 @@ returns : tie.Need-returns
 returns c =
     let after-seal-read : tie.After-seal-read = search in
     let start : tie.Start = search in
-    counted _ (start .args .b) (c .counter-after .ensures) (after-seal-read .seal-read .ensures (start .args .b) refl refl refl refl)
+    counted _ (start .args .board) (c .counter-after .ensures) (after-seal-read .seal-read .ensures (start .args .board) refl refl refl)
 
 pub seal-frame-spec : {M : Type 1} → statement M
 seal-frame-spec =
