@@ -35,14 +35,7 @@ fn is_named(identifier: u8) -> bool
     identifier != 1
 }
 
-fn seal_under(
-    sending: Sending,
-    key: [u8; 16],
-    k: u8,
-    f: &[u8],
-    h: usize,
-    out: &mut [u8],
-) -> Sealed
+fn seal_under(sending: Sending, key: [u8; 16], k: u8, f: &[u8], h: usize, out: &mut [u8]) -> Sealed
     requires { ⌜ ((2 ≤ h) × (h ≤ length (now f))) × ((length (now f) ≤ longestApsPlain ours) × ((longest ≤ length (now out)) × (named k ≡ true))) ⌝ }
     ensures { λ r. ⌜ ((b : Board) → sendingOf b ≡ sending → framed (toldSealed r) (withOutgoing b (counterAfter (toldSealed r) (b .outgoing))) (now (out .exit)) ≡ sealedUnder ours b (now (f .entry)) (now (out .entry)) h k (theKey key)) ⌝ }
 {
@@ -50,7 +43,8 @@ fn seal_under(
         Outcome::Refused(r) => Sealed::Refused(r),
         Outcome::Done => {
             let named = key_for(key, k);
-            match seals::seal(named, Layer::Aps, k, sending.counter, sending.own, 0, f, h, out) {
+            let counter = sending.counter;
+            match seals::seal(named, Layer::Aps, k, counter, sending.own, 0, f, h, out) {
                 Enclosed::Octets(n) => Sealed::Frame(n),
                 Enclosed::Nothing => Sealed::Refused(Refusal::Room),
             }
@@ -80,14 +74,7 @@ fn seal_for(
     }
 }
 
-fn seal_read(
-    links: [Link; 8],
-    sending: Sending,
-    f: &[u8],
-    a: u64,
-    k: u8,
-    out: &mut [u8],
-) -> Sealed
+fn seal_read(links: [Link; 8], sending: Sending, f: &[u8], a: u64, k: u8, out: &mut [u8]) -> Sealed
     ensures { λ r. ⌜ ((b : Board) → b .links ≡ links → sendingOf b ≡ sending → framed (toldSealed r) (withOutgoing b (counterAfter (toldSealed r) (b .outgoing))) (now (out .exit)) ≡ sealAps ours b (now (f .entry)) a k (now (out .entry))) ⌝ }
 {
     if out.len() < LONGEST {
@@ -110,13 +97,7 @@ fn seal_read(
 // Seals a plain APS frame for a partner under key identifier 0, 2 or 3: the secured frame stands at
 // the start of out, and the outgoing counter is spent. A refusal leaves the board and out as they
 // stood.
-pub fn seal_frame(
-    board: Board,
-    frame: &[u8],
-    partner: u64,
-    identifier: u8,
-    out: &mut [u8],
-) -> Sent
+pub fn seal_frame(board: Board, frame: &[u8], partner: u64, identifier: u8, out: &mut [u8]) -> Sent
     ensures { λ r. ⌜ framed (toldSealed (r .answer)) (r .board) (now (out .exit)) ≡ sealAps ours board (now (frame .entry)) partner identifier (now (out .entry)) ⌝ }
 {
     // Made before the stages run: made behind them, it would be a second copy on the stack.
