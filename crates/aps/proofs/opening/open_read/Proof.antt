@@ -4,8 +4,7 @@ use native.Mathlib.Omega.{arith}
 use lib.ListN.{length}
 use borrow.Author.Tests.{lt-ltb, le-ltb}
 use Rattle.octets.proofs.Pasted.{pasted-onto}
-use Rattle.answers.specs.Numbers.{clear}
-use Rattle.answers.specs.Numbers.{opened}
+use Rattle.answers.specs.Numbers.{clear, opened}
 use Rattle.settings.specs.Settings.{ours}
 use Rattle.board.specs.Sending.{framed}
 use Rattle.aps.specs.Opening.{openAps, openedRead}
