@@ -9,8 +9,7 @@ use lib.ListN.{length}
 use Rattle.settings.specs.Settings.{Settings, longest, longestAps}
 use Rattle.octets.specs.Keys.{Key}
 use Rattle.answers.specs.declared.Opened.{Opened}
-use Rattle.answers.specs.Numbers.{under}
-use Rattle.answers.specs.Numbers.{FrameTold, opened, turnedDown, toldOpened}
+use Rattle.answers.specs.Numbers.{under, FrameTold, opened, turnedDown, toldOpened}
 use Rattle.cipher.specs.Answers.{product}
 use Rattle.frames.specs.declared.Layer.the-variants.{Aps}
 use Rattle.frames.specs.declared.Secured.{Secured}

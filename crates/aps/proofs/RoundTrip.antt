@@ -14,8 +14,7 @@ use Rattle.settings.specs.Settings.{Settings, longest, longestAps, apsAux, top,
 use Rattle.octets.specs.Addresses.{noAddress}
 use Rattle.octets.specs.Keys.{Key, theKey}
 use Rattle.octets.specs.Lists.{onto, Octets}
-use Rattle.answers.specs.Numbers.{under}
-use Rattle.answers.specs.Numbers.{opened, sealed, turnedDown}
+use Rattle.answers.specs.Numbers.{under, opened, sealed, turnedDown}
 use Rattle.cipher.specs.Ccm.{valid}
 use Rattle.frames.specs.declared.Layer.the-variants.{Aps}
 use Rattle.frames.specs.declared.Secured.{Secured}

@@ -12,8 +12,7 @@ use Rattle.settings.specs.Settings.{Settings, longest, longestAps, apsAux, top,
 use Rattle.octets.specs.Keys.{theKey}
 use Rattle.octets.specs.Lists.{onto}
 use Rattle.octets.proofs.Choices.{choose}
-use Rattle.answers.specs.Numbers.{clear, under}
-use Rattle.answers.specs.Numbers.{opened, sealed, turnedDown}
+use Rattle.answers.specs.Numbers.{clear, under, opened, sealed, turnedDown}
 use Rattle.cipher.specs.Ccm.{Verdict, valid, invalid}
 use Rattle.frames.specs.declared.Layer.the-variants.{Aps}
 use Rattle.frames.specs.declared.Secured.{Secured}

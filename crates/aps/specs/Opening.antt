@@ -10,8 +10,7 @@ use Rattle.settings.specs.Settings.{Settings, longest, longestAps, top}
 use Rattle.octets.specs.Choice.{if_then_else_}
 use Rattle.octets.specs.Keys.{Key, theKey}
 use Rattle.octets.specs.Lists.{onto}
-use Rattle.answers.specs.Numbers.{clear, under}
-use Rattle.answers.specs.Numbers.{opened, turnedDown}
+use Rattle.answers.specs.Numbers.{clear, under, opened, turnedDown}
 use Rattle.cipher.specs.Ccm.{Verdict, valid, invalid}
 use Rattle.frames.specs.declared.Layer.the-variants.{Aps}
 use Rattle.frames.specs.declared.Secured.{Secured}

@@ -43,17 +43,8 @@ fn seal_under(sending: Sending, key: [u8; 16], k: u8, f: &[u8], h: usize, out: &
         Outcome::Refused(r) => Sealed::Refused(r),
         Outcome::Done => {
             let named = key_for(key, k);
-            match seals::seal(
-                named,
-                Layer::Aps,
-                k,
-                sending.counter,
-                sending.own,
-                0,
-                f,
-                h,
-                out,
-            ) {
+            let counter = sending.counter;
+            match seals::seal(named, Layer::Aps, k, counter, sending.own, 0, f, h, out) {
                 Enclosed::Octets(n) => Sealed::Frame(n),
                 Enclosed::Nothing => Sealed::Refused(Refusal::Room),
             }

@@ -1,3 +1,4 @@
+-- Each arm of the reading is the definition's, behind the one test of the length.
 use mathlib.Core.Path.{sym, ap, _∙_}
 use borrow.Author.Needs.{needs}
 use borrow.Author.Tests.{lt-ltb, le-ltb}
@@ -10,8 +11,8 @@ returns : tie.Need-returns
 unfolding lookAps
 returns c = simp (lt-ltb _ _ (c .if1 .taken))
 
-read-aps-requires : tie.Need-read-aps-requires
-read-aps-requires c κs = search needs
+read-frame-requires : tie.Need-read-frame-requires
+read-frame-requires c κs = search needs
 
 enum-told : tie.Need-enum-told
 enum-told c = search needs
@@ -29,21 +30,21 @@ returns-2 : tie.Need-returns-2
 unfolding lookAps lookedRead
 returns-2 c =
     let else1 : tie.Else1 = search in
-    simp (le-ltb _ _ (else1 .if1 .left), sym (c .before .before .read-aps .ensures) ∙ ap toldRead (c .enum-told .given .1))
+    simp (le-ltb _ _ (else1 .if1 .left), sym (c .before .before .read-frame .ensures) ∙ ap toldRead (c .enum-told .given .1))
 
 returns-3 : tie.Need-returns-3
 unfolding lookAps lookedRead
 returns-3 c =
     let else1 : tie.Else1 = search in
-    simp (le-ltb _ _ (else1 .if1 .left), sym (c .before .before .read-aps .ensures) ∙ ap toldRead (c .enum-told2 .given .1))
+    simp (le-ltb _ _ (else1 .if1 .left), sym (c .before .before .read-frame .ensures) ∙ ap toldRead (c .enum-told2 .given .1))
 
 returns-4 : tie.Need-returns-4
 unfolding lookAps lookedRead
 returns-4 c =
     let after-s : tie.After-s = search in
-    let after-read-aps : tie.After-read-aps = search in
+    let after-read-frame : tie.After-read-frame = search in
     let else1 : tie.Else1 = search in
-    simp (le-ltb _ _ (else1 .if1 .left), sym (after-read-aps .read-aps .ensures) ∙ ap toldRead (after-s .s .given .1))
+    simp (le-ltb _ _ (else1 .if1 .left), sym (after-read-frame .read-frame .ensures) ∙ ap toldRead (after-s .s .given .1))
     (c .look-keyed .ensures)
 
 pub look-frame-spec : {M : Type 1} → statement M
@@ -51,7 +52,7 @@ look-frame-spec =
     tie.close
     (tie.spec
     returns
-    read-aps-requires
+    read-frame-requires
     enum-told
     enum-told-2
     enum-known-s

@@ -1,3 +1,4 @@
+-- The tag is looked at under the key of the entry that is found, which is one of the eight.
 use mathlib.Core.Path.{sym, _∙_}
 use native.Mathlib.Omega.{arith}
 use borrow.Author.Needs.{needs}

@@ -1,10 +1,12 @@
+-- What unsealing answers, by the laws of seals, is what the definition asks; only a frame that was made moves the floor.
 use mathlib.Core.Path.{ap, _∙_}
-use Rattle.aps.proofs.Admission.{admit-plain, admit-forged, moves-none, moves-this}
-use Rattle.aps.specs.Opening.{admitted}
-use Rattle.seals.specs.Sealing.{messageOf}
-use mathlib.Core.List.{List}
-use Prim.Native.Nat.{ℕ}
 use borrow.Author.Needs.{needs}
+use Rattle.settings.specs.Settings.{ours}
+use Rattle.octets.specs.Keys.{Key}
+use Rattle.seals.specs.Sealing.{messageOf}
+use Rattle.seals.proofs.Fairly.{ours-fair}
+use Rattle.aps.specs.Opening.{admitted}
+use Rattle.aps.proofs.Admission.{stays, admit-plain, admit-forged, moves-none, moves-this}
 use Rattle.aps.proofs.opening.admit.Statement.{statement}
 use Rattle.aps.proofs.opening.admit.Tie as tie
 
@@ -20,14 +22,14 @@ enum-known-n c = search needs
 identifier-requires : tie.Need-identifier-requires
 identifier-requires c κs = search needs
 
-add-t17 : tie.Need-add-t17
-add-t17 c = search needs
+add-link : tie.Need-add-link
+add-link c = search needs
 
 enum-told : tie.Need-enum-told
 enum-told c = search needs
 
-down-requires : tie.Need-down-requires
-down-requires c κs = search needs
+unmoved-requires : tie.Need-unmoved-requires
+unmoved-requires c κs = search needs
 
 same-length : tie.Need-same-length
 same-length c = search needs
@@ -39,9 +41,9 @@ returns c =
     let after-n : tie.After-n = search in
     let after-unseal : tie.After-unseal = search in
     let after-key-named : tie.After-key-named = search in (
-      (λ b. admit-plain _ (y .f .now) (y .s) (y .out .now) (y .i) (x .pre .0) (x .pre .1 .0) _ (after-n .n .given .0 .0) _ _
-          (after-n .n .given .1) (after-unseal .unseal .ensures) (c .before .identifier .ensures) b ∙ ap
-          (λ (k : List ℕ). admitted b (y .f .now) (y .s) (y .out .now) (y .i) (messageOf k (y .f .now) (y .s)))
+      (λ b el. admit-plain ours ours-fair _ (y .f .now) (y .s) (y .out .now) (y .i) (x .pre .0) (x .pre .1 .0) _ (after-n .n .given .0 .0)
+          _ _ (y .l) (after-n .n .given .1) (after-unseal .unseal .ensures) (c .before .identifier .ensures) b el ∙ ap
+          (λ (k : Key). admitted b (y .f .now) (y .s) (y .out .now) (y .i) (messageOf ours k (y .f .now) (y .s)))
           (after-key-named .key-named .ensures)),
       moves-this (x .pre .1 .1 .1),
     )
@@ -53,13 +55,15 @@ returns-2 : tie.Need-returns-2
 returns-2 c =
     let x : tie.Start = search in
     let y = x .args in
+    let after-enum-told : tie.After-enum-told = search in
     let after-unseal : tie.After-unseal = search in
     let after-key-named : tie.After-key-named = search in (
-      (λ b. admit-forged _ (y .f .now) (y .s) (y .out .now) (y .i) (x .pre .0) (x .pre .1 .0) _ _ _ _ _ (c .before .enum-told .given .1)
-          (after-unseal .unseal .ensures) (c .down .ensures .0) (c .down .ensures .1) b ∙ ap
-          (λ (k : List ℕ). admitted b (y .f .now) (y .s) (y .out .now) (y .i) (messageOf k (y .f .now) (y .s)))
+      (λ b el. stays _ _ _ (c .unmoved .ensures .0) (c .unmoved .ensures .1) b
+          ∙ admit-forged ours ours-fair _ (y .f .now) (y .s) (y .out .now) (y .i) (x .pre .0) (x .pre .1 .0) _ _
+          (after-enum-told .enum-told .given .1) (after-unseal .unseal .ensures) b ∙ ap
+          (λ (k : Key). admitted b (y .f .now) (y .s) (y .out .now) (y .i) (messageOf ours k (y .f .now) (y .s)))
           (after-key-named .key-named .ensures)),
-      moves-none (c .down .ensures .1),
+      moves-none (c .unmoved .ensures .1),
     )
 
 pub admit-spec : {M : Type 1} → statement M
@@ -70,9 +74,9 @@ admit-spec =
     unseal-requires
     enum-known-n
     identifier-requires
-    add-t17
+    add-link
     enum-told
-    down-requires
+    unmoved-requires
     same-length
     returns
     same-length-2

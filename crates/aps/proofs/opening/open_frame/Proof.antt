@@ -1,40 +1,30 @@
+-- What the stages answer of every board with these links, they answer of this one; the entry that they name is one of the eight.
 use mathlib.Core.Path.{refl}
 use native.Mathlib.Omega.{arith}
+use borrow.Author.Needs.{needs}
 use Rattle.board.specs.declared.Place.the-variants.{At, Absent}
 use Rattle.aps.proofs.Admission.{moved-so}
-use borrow.Author.Needs.{needs}
 use Rattle.aps.proofs.opening.open_frame.Statement.{statement}
 use Rattle.aps.proofs.opening.open_frame.Tie as tie
 
 open-read-requires : tie.Need-open-read-requires
 open-read-requires c κs = search needs
 
-enum-known-moved : tie.Need-enum-known-moved
-enum-known-moved c = search needs
+enum-known-entry : tie.Need-enum-known-entry
+enum-known-entry c = search needs
 
-mul-l : tie.Need-mul-l
-mul-l c =
+mul-link : tie.Need-mul-link
+mul-link c =
+    let after-entry : tie.After-entry = search in
     let after-open-read : tie.After-open-read = search in
-    let h = after-open-read .open-read .ensures .1 (c .before .moved .given .0 .0) (c .before .moved .given .1) in
+    let h = after-open-read .open-read .ensures .1 (after-entry .entry .given .0 .0) (after-entry .entry .given .1) in
     omega arith
 
-element-copy-out-l : tie.Need-element-copy-out-l
-element-copy-out-l c =
+element-set-from-link : tie.Need-element-set-from-link
+element-set-from-link c =
+    let after-entry : tie.After-entry = search in
     let after-open-read : tie.After-open-read = search in
-    after-open-read .open-read .ensures .1 (c .before .moved .given .0 .0) (c .before .moved .given .1)
-
-mul-l-2 : tie.Need-mul-l-2
-mul-l-2 c =
-    let after-moved : tie.After-moved = search in
-    let after-open-read : tie.After-open-read = search in
-    let h = after-open-read .open-read .ensures .1 (after-moved .moved .given .0 .0) (after-moved .moved .given .1) in
-    omega arith
-
-element-set-from-l : tie.Need-element-set-from-l
-element-set-from-l c =
-    let after-moved : tie.After-moved = search in
-    let after-open-read : tie.After-open-read = search in
-    after-open-read .open-read .ensures .1 (after-moved .moved .given .0 .0) (after-moved .moved .given .1)
+    after-open-read .open-read .ensures .1 (after-entry .entry .given .0 .0) (after-entry .entry .given .1)
 
 enum-told : tie.Need-enum-told
 enum-told c = search needs
@@ -46,10 +36,10 @@ returns : tie.Need-returns
 returns c =
     let after-open-read : tie.After-open-read = search in
     let h = after-open-read .open-read .result in
-    let after-moved : tie.After-moved = search in
+    let after-entry : tie.After-entry = search in
     let start : tie.Start = search in
-    moved-so _ (start .args .b) (At (after-moved .moved .given .0 .0)) (h .entry) (h .floor) (after-moved .moved .given .1)
-    (after-open-read .open-read .ensures .0 (start .args .b) refl)
+    moved-so _ (start .args .board) (At (after-entry .entry .given .0 .0)) (h .entry) (h .link) (after-entry .entry .given .1)
+    (after-open-read .open-read .ensures .0 (start .args .board) refl)
 
 same-length-2 : tie.Need-same-length-2
 same-length-2 c = search needs
@@ -59,19 +49,17 @@ returns-2 c =
     let after-open-read : tie.After-open-read = search in
     let h = after-open-read .open-read .result in
     let start : tie.Start = search in
-    moved-so _ (start .args .b) Absent (h .entry) (h .floor) (c .enum-told .given .1)
-    (after-open-read .open-read .ensures .0 (start .args .b) refl)
+    moved-so _ (start .args .board) Absent (h .entry) (h .link) (c .enum-told .given .1)
+    (after-open-read .open-read .ensures .0 (start .args .board) refl)
 
 pub open-frame-spec : {M : Type 1} → statement M
 open-frame-spec =
     tie.close
     (tie.spec
     open-read-requires
-    enum-known-moved
-    mul-l
-    element-copy-out-l
-    mul-l-2
-    element-set-from-l
+    enum-known-entry
+    mul-link
+    element-set-from-link
     enum-told
     same-length
     returns

@@ -1,3 +1,4 @@
+-- The entry that is found is one of the eight, and a board that has these entries finds the same.
 use mathlib.Core.Path.{sym, ap, _∙_}
 use mathlib.Core.List.{List}
 use native.Mathlib.Omega.{arith}
@@ -6,7 +7,7 @@ use Rattle.board.specs.declared.Link.{Link}
 use Rattle.board.specs.State.{linkAt}
 use Rattle.board.specs.Requests.{linkOf}
 use Rattle.board.proofs.Found.{link-place}
-use Rattle.aps.proofs.Admission.{refuses, moves-none}
+use Rattle.aps.proofs.Admission.{stays, moves-none}
 use borrow.Author.Needs.{needs}
 use Rattle.aps.proofs.opening.open_keyed.Statement.{statement}
 use Rattle.aps.proofs.opening.open_keyed.Tie as tie
@@ -33,8 +34,8 @@ open-under-requires c κs =
 enum-told : tie.Need-enum-told
 enum-told c = search needs
 
-down-requires : tie.Need-down-requires
-down-requires c κs = search needs
+unmoved-requires : tie.Need-unmoved-requires
+unmoved-requires c κs = search needs
 
 same-length : tie.Need-same-length
 same-length c = search needs
@@ -60,8 +61,8 @@ returns-2 c =
     let after-link-of : tie.After-link-of = search in (
       (λ b el. simp
           (ap (λ (x : List Link). linkOf x (y .s .sender)) el ∙ sym (after-link-of .link-of .ensures) ∙ c .before .enum-told .given .1)
-          (refuses 6 _ _ (c .down .ensures .0) (c .down .ensures .1) b)),
-      moves-none (c .down .ensures .1),
+          (stays _ _ _ (c .unmoved .ensures .0) (c .unmoved .ensures .1) b)),
+      moves-none (c .unmoved .ensures .1),
     )
 
 pub open-keyed-spec : {M : Type 1} → statement M
@@ -74,7 +75,7 @@ open-keyed-spec =
     array-copy-out-l
     open-under-requires
     enum-told
-    down-requires
+    unmoved-requires
     same-length
     returns
     returns-2)

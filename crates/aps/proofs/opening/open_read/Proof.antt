@@ -1,46 +1,48 @@
-use mathlib.Core.Path.{sym, ap, refl, _∙_}
+-- Output and frame are judged first, then each arm of the reading is the definition's; a secured frame that was read is sound.
+use mathlib.Core.Path.{sym, ap, _∙_}
 use native.Mathlib.Omega.{arith}
 use lib.ListN.{length}
 use borrow.Author.Tests.{lt-ltb, le-ltb}
 use Rattle.octets.proofs.Pasted.{pasted-onto}
-use Rattle.aps.specs.Opening.{openAps, openedRead, gave}
-use Rattle.answers.specs.Numbers.{clear}
-use Rattle.answers.specs.Numbers.{opened}
+use Rattle.answers.specs.Numbers.{clear, opened}
+use Rattle.settings.specs.Settings.{ours}
+use Rattle.board.specs.Sending.{framed}
+use Rattle.aps.specs.Opening.{openAps, openedRead}
 use Rattle.frames.specs.Reading.{toldRead}
-use Rattle.aps.proofs.Admission.{refuses, moves-none, read-sound}
+use Rattle.aps.proofs.Admission.{stays, moves-none, read-sound}
 use borrow.Author.Needs.{needs}
 use Rattle.aps.proofs.opening.open_read.Statement.{statement}
 use Rattle.aps.proofs.opening.open_read.Tie as tie
 
-down-requires : tie.Need-down-requires
-down-requires c κs = search needs
+unmoved-requires : tie.Need-unmoved-requires
+unmoved-requires c κs = search needs
 
 returns : tie.Need-returns
 unfolding openAps
 returns c = (
-  (λ b el. simp (lt-ltb _ _ (c .before .if1 .taken)) (refuses 1 _ _ (c .down .ensures .0) (c .down .ensures .1) b)),
-  moves-none (c .down .ensures .1),
+  (λ b el. simp (lt-ltb _ _ (c .before .if1 .taken)) (stays _ _ _ (c .unmoved .ensures .0) (c .unmoved .ensures .1) b)),
+  moves-none (c .unmoved .ensures .1),
 )
 
-down-requires-2 : tie.Need-down-requires-2
-down-requires-2 c κs = search needs
+unmoved-requires-2 : tie.Need-unmoved-requires-2
+unmoved-requires-2 c κs = search needs
 
 returns-2 : tie.Need-returns-2
 unfolding openAps
 returns-2 c = (
   (λ b el. simp (le-ltb _ _ (c .before .before .if1 .left), lt-ltb _ _ (c .before .if2 .taken))
-      (refuses 2 _ _ (c .down2 .ensures .0) (c .down2 .ensures .1) b)),
-  moves-none (c .down2 .ensures .1),
+      (stays _ _ _ (c .unmoved2 .ensures .0) (c .unmoved2 .ensures .1) b)),
+  moves-none (c .unmoved2 .ensures .1),
 )
 
-read-aps-requires : tie.Need-read-aps-requires
-read-aps-requires c κs = search needs
+read-frame-requires : tie.Need-read-frame-requires
+read-frame-requires c κs = search needs
 
 enum-known-r : tie.Need-enum-known-r
 enum-known-r c = search needs
 
-down-requires-3 : tie.Need-down-requires-3
-down-requires-3 c κs = search needs
+unmoved-requires-3 : tie.Need-unmoved-requires-3
+unmoved-requires-3 c κs = search needs
 
 enum-told : tie.Need-enum-told
 enum-told c = search needs
@@ -48,18 +50,21 @@ enum-told c = search needs
 paste-at-requires : tie.Need-paste-at-requires
 paste-at-requires c κs = search needs
 
+unmoved-requires-4 : tie.Need-unmoved-requires-4
+unmoved-requires-4 c κs = search needs
+
 enum-known-s : tie.Need-enum-known-s
 enum-known-s c = search needs
 
 open-keyed-requires : tie.Need-open-keyed-requires
 open-keyed-requires c κs =
     let after-s : tie.After-s = search in
-    let after-read-aps : tie.After-read-aps = search in
+    let after-read-frame : tie.After-read-frame = search in
     let else2 : tie.Else2 = search in
     let else1 : tie.Else1 = search in
     let start : tie.Start = search in (
-      read-sound (start .args .f .now) (start .args .given) _
-          (sym (after-read-aps .read-aps .ensures) ∙ ap toldRead (after-s .s .given .1)) (else2 .if2 .left),
+      read-sound ours (start .args .f .now) (start .args .given) _
+          (sym (after-read-frame .read-frame .ensures) ∙ ap toldRead (after-s .s .given .1)) (else2 .if2 .left),
       else1 .if1 .left,
     )
 
@@ -67,16 +72,16 @@ returns-3 : tie.Need-returns-3
 unfolding openAps openedRead
 returns-3 c =
     let after-r : tie.After-r = search in
-    let after-read-aps : tie.After-read-aps = search in
+    let after-read-frame : tie.After-read-frame = search in
     let else2 : tie.Else2 = search in
     let else1 : tie.Else1 = search in (
       (λ b el. simp (
         le-ltb _ _ (else1 .if1 .left),
         le-ltb _ _ (else2 .if2 .left),
-        sym (after-read-aps .read-aps .ensures) ∙ ap toldRead (after-r .r .given .1),
+        sym (after-read-frame .read-frame .ensures) ∙ ap toldRead (after-r .r .given .1),
       )
-          (refuses _ _ _ (c .down3 .ensures .0) (c .down3 .ensures .1) b)),
-      moves-none (c .down3 .ensures .1),
+          (stays _ _ _ (c .unmoved3 .ensures .0) (c .unmoved3 .ensures .1) b)),
+      moves-none (c .unmoved3 .ensures .1),
     )
 
 same-length : tie.Need-same-length
@@ -89,17 +94,18 @@ returns-4 c =
     let y = start .args in
     let after-paste-at : tie.After-paste-at = search in
     let after-enum-told : tie.After-enum-told = search in
-    let after-read-aps : tie.After-read-aps = search in
+    let after-read-frame : tie.After-read-frame = search in
     let else2 : tie.Else2 = search in
     let else1 : tie.Else1 = search in (
       (λ b el. simp (
         le-ltb _ _ (else1 .if1 .left),
         le-ltb _ _ (else2 .if2 .left),
-        sym (after-read-aps .read-aps .ensures) ∙ ap toldRead (after-enum-told .enum-told .given .1),
+        sym (after-read-frame .read-frame .ensures) ∙ ap toldRead (after-enum-told .enum-told .given .1),
       )
-          (ap (gave (opened (length (y .f .now)) 0 clear) b) (pasted-onto _ (y .out .now) (y .f .now) (after-paste-at .paste-at .ensures)
+          (stays _ _ _ (c .unmoved4 .ensures .0) (c .unmoved4 .ensures .1) b
+          ∙ ap (framed (opened (length (y .f .now)) 0 clear) b) (pasted-onto _ (y .out .now) (y .f .now) (after-paste-at .paste-at .ensures)
           (omega (arith, else1 .if1 .left, else2 .if2 .left))))),
-      moves-none refl,
+      moves-none (c .unmoved4 .ensures .1),
     )
 
 same-length-2 : tie.Need-same-length-2
@@ -110,13 +116,13 @@ unfolding openAps openedRead
 returns-5 c =
     let after-open-keyed : tie.After-open-keyed = search in
     let after-s : tie.After-s = search in
-    let after-read-aps : tie.After-read-aps = search in
+    let after-read-frame : tie.After-read-frame = search in
     let else2 : tie.Else2 = search in
     let else1 : tie.Else1 = search in (
       (λ b el. simp (
         le-ltb _ _ (else1 .if1 .left),
         le-ltb _ _ (else2 .if2 .left),
-        sym (after-read-aps .read-aps .ensures) ∙ ap toldRead (after-s .s .given .1),
+        sym (after-read-frame .read-frame .ensures) ∙ ap toldRead (after-s .s .given .1),
       )
           (after-open-keyed .open-keyed .ensures .0 b el)),
       after-open-keyed .open-keyed .ensures .1,
@@ -126,15 +132,16 @@ pub open-read-spec : {M : Type 1} → statement M
 open-read-spec =
     tie.close
     (tie.spec
-    down-requires
+    unmoved-requires
     returns
-    down-requires-2
+    unmoved-requires-2
     returns-2
-    read-aps-requires
+    read-frame-requires
     enum-known-r
-    down-requires-3
+    unmoved-requires-3
     enum-told
     paste-at-requires
+    unmoved-requires-4
     enum-known-s
     open-keyed-requires
     returns-3

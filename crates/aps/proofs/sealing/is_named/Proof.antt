@@ -1,3 +1,4 @@
+-- Above 3, and 1, are what the definition leaves out.
 use borrow.Author.Tests.{le-leb, lt-leb}
 use Rattle.aps.specs.Sealing.{named}
 use Rattle.aps.proofs.sealing.is_named.Statement.{statement}

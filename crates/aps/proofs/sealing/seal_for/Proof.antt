@@ -1,6 +1,9 @@
+-- The partner's entry is one of the eight, and a board that has these entries finds the same.
 use mathlib.Core.Path.{sym, ap, _∙_}
 use mathlib.Core.List.{List}
 use native.Mathlib.Omega.{arith}
+use Rattle.settings.specs.Settings.{ours}
+use Rattle.octets.specs.Keys.{theKey}
 use Rattle.aps.specs.Sealing.{sealedFor, sealedUnder}
 use Rattle.board.specs.declared.Link.{Link}
 use Rattle.board.specs.State.{linkAt}
@@ -38,17 +41,18 @@ returns c =
     let after-i : tie.After-i = search in
     let after-link-of : tie.After-link-of = search in
     let start : tie.Start = search in
-    λ b el en eo. let y = start .args in
+    λ b el es. let y = start .args in
+    let i = after-i .i .given .0 .0 in
     simp (ap (λ (x : List Link). linkOf x (y .a)) el ∙ sym (after-link-of .link-of .ensures) ∙ after-i .i .given .1)
-    (after-seal-under .seal-under .ensures b en eo ∙ ap
-    (λ (x : List Link). sealedUnder b (y .f .now) (y .out .now) (y .h) (y .k) (linkAt x (after-i .i .given .0 .0) .key)) (sym el))
+    (after-seal-under .seal-under .ensures b es
+    ∙ ap (λ (x : List Link). sealedUnder ours b (y .f .now) (y .out .now) (y .h) (y .k) (theKey (linkAt x i .key))) (sym el))
 
 returns-2 : tie.Need-returns-2
 unfolding sealedFor
 returns-2 c =
     let after-link-of : tie.After-link-of = search in
     let start : tie.Start = search in
-    λ b el en eo. simp
+    λ b el es. simp
     (ap (λ (x : List Link). linkOf x (start .args .a)) el ∙ sym (after-link-of .link-of .ensures) ∙ c .enum-told .given .1)
 
 pub seal-for-spec : {M : Type 1} → statement M

@@ -1,8 +1,12 @@
-use mathlib.Core.Path.{refl}
+-- What the stages answer of every board with these links, counter and address, they answer of this one.
+use mathlib.Core.Path.{refl, sym}
 use Rattle.board.proofs.Leaves.{counted}
 use borrow.Author.Needs.{needs}
 use Rattle.aps.proofs.sealing.seal_frame.Statement.{statement}
 use Rattle.aps.proofs.sealing.seal_frame.Tie as tie
+
+sending-of-requires : tie.Need-sending-of-requires
+sending-of-requires c κs = search needs
 
 seal-read-requires : tie.Need-seal-read-requires
 seal-read-requires c κs = search needs
@@ -16,9 +20,11 @@ same-length c = search needs
 returns : tie.Need-returns
 returns c =
     let after-seal-read : tie.After-seal-read = search in
+    let after-sending-of : tie.After-sending-of = search in
     let start : tie.Start = search in
-    counted _ (start .args .b) (c .counter-after .ensures) (after-seal-read .seal-read .ensures (start .args .b) refl refl refl)
+    let b = start .args .board in
+    counted _ b (c .counter-after .ensures) (after-seal-read .seal-read .ensures b refl (sym (after-sending-of .sending-of .ensures)))
 
 pub seal-frame-spec : {M : Type 1} → statement M
 seal-frame-spec =
-    tie.close (tie.spec seal-read-requires counter-after-requires same-length returns)
+    tie.close (tie.spec sending-of-requires seal-read-requires counter-after-requires same-length returns)
