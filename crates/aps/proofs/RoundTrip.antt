@@ -53,7 +53,7 @@ module _ (z : Settings) (fair : Fair z) (link : Key) (f : List ℕ) (h k n a : �
   g-length : length g ≤ longestAps
   g-length =
       let w = plain-to-seal Aps f h (p .unsecured) in
-      omega (arith, w .least, w .within, length-again z fair (keyFor link k) 0 p, sent-named k nk)
+      omega (arith, w .least, w .within, length-again z (keyFor link k) 0 p, sent-named k nk)
 
   plain-count : h + length (drop h f) ≡ length f
   plain-count = let w = plain-to-seal Aps f h (p .unsecured) .within in omega (arith, length-drop h f)
@@ -67,7 +67,7 @@ module _ (z : Settings) (fair : Fair z) (link : Key) (f : List ℕ) (h k n a : �
     opened-entry =
         ap₂ (λ (x y : ℕ). framed (opened x a (under y)) (withFloor c i (n + 1)) (onto (plainFrame Aps g s (drop h f)) o)) plain-count named-so
         ∙ ap (λ (x : List ℕ). framed (opened (length f) a (under k)) (withFloor c i (n + 1)) (onto x o))
-        (plain-again z fair (keyFor link k) 0 p)
+        (plain-again z (keyFor link k) 0 p)
 
     key-found : keyFor (theKey (linkAt (c .links) i .key)) (identifierOf (wireControl k)) ≡ keyFor link k
     key-found = ap₂ keyFor (w .same) named-so
@@ -77,13 +77,13 @@ module _ (z : Settings) (fair : Fair z) (link : Key) (f : List ℕ) (h k n a : �
     unsealed =
         simp (ne-eqb _ _ below, le-ltb _ _ (w .fresh))
         (ap (λ (x : Key). admitted c g s o i (messageOf z x g s)) key-found
-        ∙ ap (admitted c g s o i) (message-again z fair (keyFor link k) 0 p) ∙ opened-entry)
+        ∙ ap (admitted c g s o i) (message-again z (keyFor link k) 0 p fair) ∙ opened-entry)
 
     pub opens-again : (given : ℕ) → openAps z c g given o ≡ framed (opened (length f) a (under k)) (withFloor c i (n + 1)) (onto f o)
     unfolding openAps openedRead openedKeyed
     opens-again given =
         simp (le-ltb _ _ (w .room), le-ltb _ _ g-length)
-        (ap (openedRead z c g o) (read-again z fair (keyFor link k) 0 p given) ∙ ap (openedKeyed z c g s o) (w .found) ∙ unsealed)
+        (ap (openedRead z c g o) (read-again z (keyFor link k) 0 p given) ∙ ap (openedKeyed z c g s o) (w .found) ∙ unsealed)
 
 -- ---- two boards
 

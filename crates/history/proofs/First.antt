@@ -18,7 +18,8 @@ use Rattle.history.specs.Events.{Holder, slot, link, Installation, key, 
 use Rattle.history.specs.Story.{installing, hearing, telling, eventsOf, story}
 use Rattle.history.specs.Statement.{readings, lower, rising, First}
 use Rattle.history.specs.Running.{Held, byFrame, step, run, replies}
-use Rattle.history.proofs.Ways.{aps-ways, Made, network-seals, aps-seals, writes}
+use Rattle.history.proofs.Ways.{Made, network-seals, aps-seals, writes}
+use Rattle.aps.proofs.Ways as aps
 use Rattle.answers.specs.Numbers.{done, refused as declined}
 use Rattle.frames.specs.declared.Layer.{Layer}
 use Rattle.frames.specs.declared.Layer.the-variants.{Network, Aps}
@@ -30,26 +31,26 @@ use Rattle.board.specs.Sending.{spent, Framed}
 use Rattle.board.specs.Requests.{Changed, make}
 use Rattle.board.proofs.Untouched.{install-keeps, switch-keeps, add-keeps, remove-keeps}
 use Rattle.seals.specs.Sealing.{sealedFrame}
-use Rattle.seals.proofs.Again.{ToSeal, announcing, read-again, length-again}
+use Rattle.seals.proofs.Again.{ToSeal, announcing, read-again}
 use Rattle.commands.specs.declared.Command.{Command}
-use Rattle.commands.specs.Writing.{counted}
+use Rattle.commands.specs.Writing.{apsRaised}
 
 -- ---- a sealed frame, as its receiver reads it
 
-module _ (l : Layer) (b : Board) (f o : List ℕ) (n : ℕ) (p : List ℕ) (t : Made l b f o n p) (octets : Octets f) (low : b .outgoing < 2 ^ 32)
+module _ (z : Settings) (l : Layer) (b : Board) (f o : List ℕ) (n : ℕ) (p : List ℕ) (t : Made z l b f o n p) (octets : Octets f) (low : b .outgoing < 2 ^ 32)
     (wide : b .own < 2 ^ 64) (someone : noAddress (b .own) ≡ false) where
   to-seal : ToSeal l f (t .header) (t .named) (b .outgoing) (b .own)
   to-seal = record { unsecured = t .unsecured; octets = octets; suited = t .suited; counter = low; sender = wide; someone = someone }
 
   frame : List ℕ
-  frame = sealedFrame (t .key) l (t .named) (b .outgoing) (b .own) (t .number) f (t .header)
+  frame = sealedFrame z (t .key) l (t .named) (b .outgoing) (b .own) (t .number) f (t .header)
 
   read-made : reading z l (take n p) 0 ≡ secured (announcing (t .header) (t .named) (b .outgoing) (b .own) (t .number))
   unfolding frame
   read-made =
       ap (λ (g : List ℕ). reading l g 0)
-      (ap (take n) (t .out) ∙ take-at frame (drop (length frame) o) n (length-again (t .key) (t .number) to-seal ∙ sym (t .count)))
-      ∙ read-again (t .key) (t .number) to-seal 0
+      (ap (take n) (t .out) ∙ take-at frame (drop (length frame) o) n (sym (t .count)))
+      ∙ read-again z (t .key) (t .number) to-seal 0
 
 -- ---- what every call keeps
 
@@ -91,11 +92,11 @@ module _ (z : Settings) (own : ℕ) (wide : own < 2 ^ 64) (someone : noAddress o
   After c = Sends own (step z c x .after .board) (readings z (sentIn (eventsOf z h c (step z c x .reply) ++ h)))
 
   -- the counter of a frame that is sealed is above the last one's
-  sends-made : (l : Layer) (f o : List ℕ) → Octets f → (n : ℕ) (p : List ℕ) → Made l b f o n p
+  sends-made : (l : Layer) (f o : List ℕ) → Octets f → (n : ℕ) (p : List ℕ) → Made z l b f o n p
       → Sends own (spent b) (reading z l (take n p) 0 ∷ readings z (sentIn h))
   unfolding spent
   sends-made l f o octets n p t =
-      rw (read-made l b f o n p t octets (omega (arith, w .low)) (rw (w .owned) wide) (rw (w .owned) someone), ne-eqb (b .outgoing) top (t .below))
+      rw (read-made z l b f o n p t octets (omega (arith, w .low)) (rw (w .owned) wide) (rw (w .owned) someone), ne-eqb (b .outgoing) top (t .below))
       (record {
         owned = w .owned;
         low = omega (arith, w .low, t .below);
@@ -105,21 +106,21 @@ module _ (z : Settings) (own : ℕ) (wide : own < 2 ^ 64) (someone : noAddress o
 
   sends-seal : (l : Layer) (f : List ℕ) (a k : ℕ) (o : List ℕ) → Octets f → After (sealing l f a k o)
   sends-seal Network f a k o octets =
-      network-seals b f o
+      network-seals z b f o
       (λ (r : Framed). Sends own (byFrame x r .after .board) (readings z (sentIn (eventsOf z h (sealing Network f a k o) (byFrame x r .reply) ++ h))))
       (λ n. w) (sends-made Network f o octets)
   sends-seal Aps f a k o octets =
-      aps-seals b f a k o
+      aps-seals z b f o
       (λ (r : Framed). Sends own (byFrame x r .after .board) (readings z (sentIn (eventsOf z h (sealing Aps f a k o) (byFrame x r .reply) ++ h))))
-      (λ n. w) (sends-made Aps f o octets)
+      (λ n. w) a k (sends-made Aps f o octets)
 
   sends-aps : (f : List ℕ) (g : ℕ) (o : List ℕ) → Sends own (step z (opening Aps f g o) x .after .board) (readings z (sentIn h))
   sends-aps f g o =
-      aps-ways b f g o (λ (r : Framed). Sends own (byFrame x r .after .board) (readings z (sentIn h))) (λ n. w) (λ n p e. w)
-      (λ s i n p t. kept w refl refl refl)
+      aps.open-ways z b f g o (λ (r : Framed). Sends own (byFrame x r .after .board) (readings z (sentIn h))) (λ n. w) (λ n e. w)
+      (λ s i t. kept w refl refl refl)
 
   sends-write : (a : Bool) (c : Command) (k r o : List ℕ) → Sends own (step z (writing a c k r o) x .after .board) (readings z (sentIn h))
-  unfolding counted
+  unfolding apsRaised
   sends-write a c k r o =
       writes b a c k r o (λ (w : Framed). Sends own (byFrame x w .after .board) (readings z (sentIn h))) (λ n. w) (λ n p. kept w refl refl refl)
 
@@ -130,7 +131,7 @@ module _ (z : Settings) (own : ℕ) (wide : own < 2 ^ 64) (someone : noAddress o
 
   sends-step : (c : Call) → Octets (toSeal c) → After c
   sends-step (install i n k) o =
-      let t = install-keeps z b (x .lists .addrs) (x .lists .floors) i n k in
+      let t = install-keeps z b (x .lists) i n k in
       silent (install i n k) (kept w (t .own) (t .outgoing) refl) (quiet-installing h (slot i) (key n k))
   sends-step (switch n) o = let t = switch-keeps b n in silent (switch n) (kept w (t .own) (t .outgoing) refl) refl
   sends-step (addLink a k) o =
@@ -164,5 +165,5 @@ sends z own wide e [] o = sends-fresh own e .1
 sends z own wide e (c ∷ cs) o =
     sends-step z own wide (sends-fresh own e .0) (run z own cs) (story z (exchanges (replies z own) cs)) (sends z own wide e cs (o .1)) c (o .0)
 
-pub first : (z : Settings) (own : ℕ) → own < 2 ^ 64 → make own .answer ≡ done → First (replies z own)
+pub first : (z : Settings) (own : ℕ) → own < 2 ^ 64 → make own .answer ≡ done → First z (replies z own)
 first z own wide e cs o = sends z own wide e cs o .rises

@@ -21,9 +21,9 @@ use Rattle.history.specs.Story.{eventsOf, story}
 use Rattle.history.specs.Statement.{readings, lower, rising, First, longestAt, keyAt, aboveAll, room, passesUnder, passesRead, passes, Rightly, Second}
 use Rattle.history.specs.Running.{Held, byNetwork, byFrame, step, run, replies}
 use Rattle.history.proofs.Searches.{clash}
-use Rattle.history.proofs.First.{read-same}
 use Rattle.history.proofs.Second.{key-nowhere, plain-not}
-use Rattle.history.proofs.Ways.{network-ways, aps-ways}
+use Rattle.network.proofs.Ways as networkWays
+use Rattle.aps.proofs.Ways as apsWays
 use Rattle.answers.specs.Numbers.{ProtectionTold, under, opened, turnedDown}
 use Rattle.frames.specs.declared.Layer.{Layer}
 use Rattle.frames.specs.declared.Layer.the-variants.{Network, Aps}
@@ -31,7 +31,7 @@ use Rattle.frames.specs.declared.Secured.{Secured}
 use Rattle.frames.specs.Security.{identifierOf}
 use Rattle.frames.specs.Reading.{Reading, refused, plain, secured, reading}
 use Rattle.board.specs.Places.{firstAt}
-use Rattle.seals.specs.Sealing.{genuine, sentOctets, sealedFrame}
+use Rattle.seals.specs.Sealing.{Fair, genuine, sentOctets, sealedFrame}
 use Rattle.seals.proofs.Again.{ToSeal, announcing, read-again, message-again, length-again, octets-again}
 use Rattle.octets.proofs.Choices.{both-parts}
 use Rattle.network.specs.Opening as network
@@ -168,7 +168,7 @@ stale-stays x a c (heard y r ∷ es) h u e = go (same y x) (stale-stays x a c es
     go false ih = ih
 stale-stays x a c (sent s ∷ es) h u e = stale-stays x a c es h u e
 
-same-self : (h : List Event) (x : Holder) (n : ℕ) (k : List ℕ) → keyIn h x ≡ key n k → same x x ≡ true
+same-self : (h : List Event) (x : Holder) (n : ℕ) (k : Key) → keyIn h x ≡ key n k → same x x ≡ true
 same-self h (slot i) n k e = eq-eqb i i refl
 same-self h (link a) n k e = eq-eqb a a refl
 same-self h nowhere n k e = let zz : none ≡ key n k = sym (key-nowhere h) ∙ e in cc
@@ -198,7 +198,7 @@ module _ (z : Settings) (h : List Event) (l : Layer) (f : List ℕ) (g : ℕ) (o
   -- a frame that passes has its key
   record Found : Type 0 where
     pub number : ℕ
-    pub octets : List ℕ
+    pub octets : Key
     pub found : keyIn h x ≡ key number octets
 
   has-key : passes z h l f g o ≡ true → Found
@@ -323,54 +323,54 @@ module _ (z : Settings) (board : Replies) (meets : Second z board) where
 
   -- a frame that was sealed under a key that is there is opened, where its counter is new, its sender finds room and the output
   -- has room
-  pub sealed-opens : (cs : List Call) (l : Layer) (k : List ℕ) (q c n a : ℕ) (f : List ℕ) (i g : ℕ) (o j : List ℕ) (y : ℕ) → ToSeal l f i c n a
-      → Octets k → q < 256 → longest ≤ length o → length f + sentOctets c + 4 ≤ longestAt l
+  pub sealed-opens : Fair z → (cs : List Call) (l : Layer) (k : Key) (q c n a : ℕ) (f : List ℕ) (i g : ℕ) (o : List ℕ) (j : Key) (y : ℕ)
+      → ToSeal l f i c n a → Octets (k .octets) → q < 256 → longest ≤ length o → length f + sentOctets c + z .tag ≤ longestAt l
       → let h = story z (exchanges board cs) in
       keyIn h (holderFor h l (announcing i c n a q)) ≡ key y j → keyAt l (announcing i c n a q) j ≡ k → n < top
       → aboveAll a n (heardIn h (holderFor h l (announcing i c n a q))) ≡ true → room z h (holderFor h l (announcing i c n a q)) a ≡ true
-      → refuses (board cs (opening l (sealedFrame k l c n a q f i) g o)) ≡ false
+      → refuses (board cs (opening l (sealedFrame z k l c n a q f i) g o)) ≡ false
   unfolding passes passesRead passesUnder genuine
-  sealed-opens cs l k q c n a f i g o j y p ok oq ro so ek sk nt ab rm =
-      not-back (refuses (board cs (opening l (sealedFrame k l c n a q f i) g o))) true
-      (opened-so cs l (sealedFrame k l c n a q f i) g o (announcing i c n a q) (octets-again k q p ok oq) read ∙ pass)
+  sealed-opens fair cs l k q c n a f i g o j y p ok oq ro so ek sk nt ab rm =
+      not-back (refuses (board cs (opening l (sealedFrame z k l c n a q f i) g o))) true
+      (opened-so cs l (sealedFrame z k l c n a q f i) g o (announcing i c n a q) (octets-again z k q p ok oq) read ∙ pass)
     where
-      read : reading z l (sealedFrame k l c n a q f i) g ≡ secured (announcing i c n a q)
-      read = read-same l (sealedFrame k l c n a q f i) g ∙ read-again k q p g
+      read : reading z l (sealedFrame z k l c n a q f i) g ≡ secured (announcing i c n a q)
+      read = read-again z k q p g
 
-      pass : passes z (story z (exchanges board cs)) l (sealedFrame k l c n a q f i) g o ≡ true
+      pass : passes z (story z (exchanges board cs)) l (sealedFrame z k l c n a q f i) g o ≡ true
       pass =
           simp (
             le-leb longest (length o) ro,
-            le-leb (length (sealedFrame k l c n a q f i)) (longestAt l) (omega (arith, length-again k q p)),
+            le-leb (length (sealedFrame z k l c n a q f i)) (longestAt l) (omega (arith, length-again z k q p)),
             read,
             ek,
             lt-ltb n top nt,
             ab,
             sk,
-            message-again k q p,
+            message-again z k q p fair,
             rm,
           )
 
   -- so a board that took a network key and then refuses a first frame sealed under it does not meet the statement
-  pub installed-opens : (k : List ℕ) (q n a : ℕ) (f : List ℕ) (i g : ℕ) (o : List ℕ) → 0 < z → refuses (board [] (install 0 q k)) ≡ false
-      → ToSeal Network f i 1 n a → Octets k → q < 256 → longest ≤ length o → length f + sentOctets 1 + 4 ≤ longest → n < top
-      → refuses (board (install 0 q k ∷ []) (opening Network (sealedFrame k Network 1 n a q f i) g o)) ≡ false
+  pub installed-opens : Fair z → (k : Key) (q n a : ℕ) (f : List ℕ) (i g : ℕ) (o : List ℕ) → 0 < z .rows → refuses (board [] (install 0 q k)) ≡ false
+      → ToSeal Network f i 1 n a → Octets (k .octets) → q < 256 → longest ≤ length o → length f + sentOctets 1 + z .tag ≤ longest → n < top
+      → refuses (board (install 0 q k ∷ []) (opening Network (sealedFrame z k Network 1 n a q f i) g o)) ≡ false
   unfolding slotFor firstAt
-  installed-opens k q n a f i g o mp took p ok oq ro so nt =
-      sealed-opens (install 0 q k ∷ []) Network k q 1 n a f i g o k q p ok oq ro so
-      (rw (took, eq-eqb q q refl) refl) refl nt (rw (took, eq-eqb q q refl) refl) (rw (took, eq-eqb q q refl) (lt-ltb 0 z mp))
+  installed-opens fair k q n a f i g o mp took p ok oq ro so nt =
+      sealed-opens fair (install 0 q k ∷ []) Network k q 1 n a f i g o k q p ok oq ro so
+      (rw (took, eq-eqb q q refl) refl) refl nt (rw (took, eq-eqb q q refl) refl) (rw (took, eq-eqb q q refl) (lt-ltb 0 (z .rows) mp))
 
 -- ---- of ours: a refused frame might as well not have come
 
 module _ (z : Settings) (x : Held) (f : List ℕ) (g : ℕ) (o : List ℕ) where
   refused-stays : (l : Layer) → refuses (step z (opening l f g o) x .reply) ≡ true → step z (opening l f g o) x .after ≡ x
   refused-stays Network =
-      network-ways z (x .board) f (x .lists .addrs) (x .lists .floors) o
+      networkWays.open-ways z (x .board) f (record { lists = x .lists; out = o })
       (λ (r : network.Opening). refuses (byNetwork x r .reply) ≡ true → byNetwork x r .after ≡ x) (λ k e. refl) (λ k p q e. refl)
       (λ s i r k p t e. clash e refl)
   refused-stays Aps =
-      aps-ways (x .board) f g o (λ (r : Framed). refuses (byFrame x r .reply) ≡ true → byFrame x r .after ≡ x) (λ k e. refl) (λ k p q e. refl)
-      (λ s i k p t e. clash e refl)
+      apsWays.open-ways z (x .board) f g o (λ (r : Framed). refuses (byFrame x r .reply) ≡ true → byFrame x r .after ≡ x) (λ k e. refl)
+      (λ k q e. refl) (λ s i t e. clash e refl)
 
 module _ (z : Settings) (own : ℕ) (cs : List Call) (l : Layer) (f : List ℕ) (g : ℕ) (o : List ℕ)
     (turned : refuses (replies z own cs (opening l f g o)) ≡ true) where

@@ -26,7 +26,8 @@ use Rattle.history.proofs.Rows.{there}
 use Rattle.history.proofs.Senders.{row-there, room-told}
 use Rattle.history.proofs.Slots.{found-key}
 use Rattle.history.proofs.Links.{Tells}
-use Rattle.history.proofs.Ways.{network-ways, aps-ways}
+use Rattle.network.proofs.Ways as networkWays
+use Rattle.aps.proofs.Ways as apsWays
 use Rattle.history.proofs.Stands.{Stands, sender-some, slot-for, stands}
 use Rattle.cipher.specs.Ccm.{Verdict, valid, invalid}
 use Rattle.frames.specs.declared.Layer.{Layer}
@@ -191,7 +192,7 @@ module _ (z : Settings) (x : Held) (h : List Event) (w : Stands z x h) (f : List
   -- an unsecured one is handed out under no key
   pub clear-network : (n : ℕ) → reading z Network f 0 ≡ plain n → tellsKey (step z (opening Network f g o) x .reply) ≡ false
   clear-network n e =
-      network-ways z b f lw (λ (r : network.Opening). tellsKey (byNetwork x r .reply) ≡ false) (λ k. refl) (λ k p q. refl)
+      networkWays.open-ways z b f lw (λ (r : network.Opening). tellsKey (byNetwork x r .reply) ≡ false) (λ k. refl) (λ k p q. refl)
       (λ s i r k p t. absurd (plain-not n s (sym e ∙ t .read)))
 
   -- ---- an APS frame
@@ -244,8 +245,8 @@ module _ (z : Settings) (x : Held) (h : List Event) (w : Stands z x h) (f : List
 
   pub clear-aps : (n : ℕ) → reading z Aps f g ≡ plain n → tellsKey (step z (opening Aps f g o) x .reply) ≡ false
   clear-aps n e =
-      aps-ways z b f g o (λ (r : Framed). tellsKey (byFrame x r .reply) ≡ false) (λ k. refl) (λ k p q. refl)
-      (λ s i k p t. absurd (plain-not n s (sym e ∙ t .read)))
+      apsWays.open-ways z b f g o (λ (r : Framed). tellsKey (byFrame x r .reply) ≡ false) (λ k. refl) (λ k q. refl)
+      (λ s i t. absurd (plain-not n s (sym e ∙ t .read)))
 
   -- ---- either layer
 

@@ -25,7 +25,7 @@ use Rattle.history.proofs.Rows.{Rows, zeroes, rows-ext, rows-fresh}
 use Rattle.history.proofs.Senders.{row-there, hear-rows, lose-rows, clear-rows}
 use Rattle.history.proofs.Slots.{Slots, slots-fresh, keeps-same, slot-told, install-slot}
 use Rattle.history.proofs.Links.{Links, Tells, pairsAt, links-fresh, links-ext, pair-mine, pair-other, pair-free, Mine, mine, free, entry-put, entry-gone}
-use Rattle.history.proofs.Ways.{Passed, network-ways, PassedAps, aps-ways, network-seals, aps-seals, writes}
+use Rattle.history.proofs.Ways.{network-seals, aps-seals, writes}
 use Rattle.answers.specs.Numbers.{done}
 use Rattle.frames.specs.declared.Layer.{Layer}
 use Rattle.frames.specs.declared.Layer.the-variants.{Network, Aps}
@@ -44,9 +44,11 @@ use Rattle.board.proofs.Found.{slot-place}
 use Rattle.network.specs.Opening.{floorAt, floorOf}
 use Rattle.aps.specs.Opening.{withFloor}
 use Rattle.commands.specs.declared.Command.{Command}
-use Rattle.commands.specs.Writing.{counted}
+use Rattle.commands.specs.Writing.{apsRaised}
 use Rattle.board.specs.Requests as requests
-use Rattle.network.specs.Opening as network
+use Rattle.network.specs.Opening.{Lent, Opening}
+use Rattle.network.proofs.Ways as network
+use Rattle.aps.proofs.Ways as aps
 
 pub record Stands (z : Settings) (x : Held) (h : List Event) : Type 0 where
   pub slots : Slots (x .board .slots) (λ i. keyIn h (slot i))
@@ -226,12 +228,12 @@ module _ (z : Settings) (x : Held) (h : List Event) (w : Stands z x h) where
   pub stands-network : (f : List ℕ) (g : ℕ) (o : List ℕ)
       → Stands z (step z (opening Network f g o) x .after) (eventsOf z h (opening Network f g o) (step z (opening Network f g o) x .reply) ++ h)
   unfolding floorOf
-  stands-network f g o = network-ways z b f (x .lists .addrs) (x .lists .floors) o P (λ n. w) (λ n p e. rw e w) passed
+  stands-network f g o = network.open-ways z b f (record { lists = x .lists; out = o }) P (λ n. w) (λ n p e. rw e w) passed
     where
-      P : network.Opening → Type 0
+      P : Opening → Type 0
       P r = Stands z (byNetwork x r .after) (eventsOf z h (opening Network f g o) (byNetwork x r .reply) ++ h)
 
-      passed : (s : Secured) (i r n : ℕ) (p : List ℕ) → Passed z b f (x .lists .addrs) (x .lists .floors) o s i r
+      passed : (s : Secured) (i r n : ℕ) (p : List ℕ) → network.Passed z b f (record { lists = x .lists; out = o }) s i r
           → Stands z (held b (lists (set (x .lists .addrs) r (s .sender)) (set (x .lists .floors) r (s .counter + 1)))) (hearing h Network f (take n p) (reading z Network f 0) ++ h)
       passed s i r n p t =
           rw (t .read, slot-for (s .sequence), t .found)
@@ -262,12 +264,12 @@ module _ (z : Settings) (x : Held) (h : List Event) (w : Stands z x h) where
   pub stands-aps : (f : List ℕ) (g : ℕ) (o : List ℕ)
       → Stands z (step z (opening Aps f g o) x .after) (eventsOf z h (opening Aps f g o) (step z (opening Aps f g o) x .reply) ++ h)
   unfolding pairs
-  stands-aps f g o = aps-ways b f g o P (λ n. w) (λ n p e. rw e w) passed
+  stands-aps f g o = aps.open-ways z b f g o P (λ n. w) (λ n e. rw e w) (λ s i t. passed s i _ _ t)
     where
       P : Framed → Type 0
       P r = Stands z (byFrame x r .after) (eventsOf z h (opening Aps f g o) (byFrame x r .reply) ++ h)
 
-      passed : (s : Secured) (i n : ℕ) (p : List ℕ) → PassedAps b f g o s i
+      passed : (s : Secured) (i n : ℕ) (p : List ℕ) → aps.Passed z b f g s i
           → Stands z (held (withFloor b i (s .counter + 1)) (x .lists)) (hearing h Aps f (take n p) (reading z Aps f g) ++ h)
       passed s i n p t = rw (t .read) (record { slots = w .slots; rows = w .rows; links = links-ext put keys-so opened-so })
         where
@@ -324,15 +326,15 @@ module _ (z : Settings) (x : Held) (h : List Event) (w : Stands z x h) where
       → Stands z (step z (sealing l f a k o) x .after) (eventsOf z h (sealing l f a k o) (step z (sealing l f a k o) x .reply) ++ h)
   unfolding spent
   stands-seal Network f a k o =
-      network-seals b f o (λ (r : Framed). Stands z (byFrame x r .after) (eventsOf z h (sealing Network f a k o) (byFrame x r .reply) ++ h)) (λ n. w)
+      network-seals z b f o (λ (r : Framed). Stands z (byFrame x r .after) (eventsOf z h (sealing Network f a k o) (byFrame x r .reply) ++ h)) (λ n. w)
       (λ n p t. record { slots = w .slots; rows = w .rows; links = w .links })
   stands-seal Aps f a k o =
-      aps-seals b f a k o (λ (r : Framed). Stands z (byFrame x r .after) (eventsOf z h (sealing Aps f a k o) (byFrame x r .reply) ++ h)) (λ n. w)
+      aps-seals z b f o (λ (r : Framed). Stands z (byFrame x r .after) (eventsOf z h (sealing Aps f a k o) (byFrame x r .reply) ++ h)) (λ n. w) a k
       (λ n p t. record { slots = w .slots; rows = w .rows; links = w .links })
 
   -- the writer moves the APS counter, and nothing else
   pub stands-write : (a : Bool) (c : Command) (k r o : List ℕ) → Stands z (step z (writing a c k r o) x .after) (eventsOf z h (writing a c k r o) (step z (writing a c k r o) x .reply) ++ h)
-  unfolding counted
+  unfolding apsRaised
   stands-write a c k r o =
       writes b a c k r o (λ (w : Framed). Stands z (byFrame x w .after) (eventsOf z h (writing a c k r o) (byFrame x w .reply) ++ h)) (λ n. w)
       (λ n p. record { slots = w .slots; rows = w .rows; links = w .links })

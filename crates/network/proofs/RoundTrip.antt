@@ -61,7 +61,7 @@ module _ (z : Settings) (fair : Fair z) (key : Key) (f : List ℕ) (h n a q : �
 
   g-length : length g ≤ longest
   unfolding sentOctets
-  g-length = omega (arith, length-again z fair key q p, tag-most (z .tag) (fair .tag))
+  g-length = omega (arith, length-again z key q p, tag-most (z .tag) (fair .tag))
 
   plain-count : h + length (drop h f) ≡ length f
   plain-count = let w = plain-to-seal Network f h (p .unsecured) .within in omega (arith, length-drop h f)
@@ -72,13 +72,13 @@ module _ (z : Settings) (fair : Fair z) (key : Key) (f : List ℕ) (h n a q : �
     opened-row =
         ap₂ (λ (x : ℕ) (y : List ℕ).
         leaving (opened x a (under identifier)) (record { lists = withRow (w .lists) r a (n + 1); out = onto y (w .out) }))
-        plain-count (plain-again z fair key q p)
+        plain-count (plain-again z key q p)
 
     unsealed : openedUnder z key j g s w ≡ openedWith f n a w r
     unfolding openedUnder
     unsealed =
         simp (ne-eqb _ _ below, le-ltb _ _ (t .fresh))
-        (ap₂ (λ (x : Verdict) (y : Place). admitted g s w x y) (message-again z fair key q p) (t .row) ∙ opened-row)
+        (ap₂ (λ (x : Verdict) (y : Place). admitted g s w x y) (message-again z key q p fair) (t .row) ∙ opened-row)
 
     keyed : openedKeyed z (c .slots) g s w (At j) ≡ openedWith f n a w r
     unfolding openedKeyed
@@ -88,7 +88,7 @@ module _ (z : Settings) (fair : Fair z) (key : Key) (f : List ℕ) (h n a q : �
     unfolding openNetwork openedRead
     opens-again =
         simp (le-leb _ _ (t .room), t .lists, le-ltb _ _ g-length)
-        (ap (openedRead z (c .slots) g w) (read-again z fair key q p 0)
+        (ap (openedRead z (c .slots) g w) (read-again z key q p 0)
         ∙ ap (openedKeyed z (c .slots) g s w) (t .found) ∙ keyed)
 
 -- ---- two boards

@@ -81,7 +81,7 @@ pub announcing-aps : (h k n s q : ℕ) → (k ≡ 1 → ⊥) → announcing h k 
 unfolding sentOctets
 announcing-aps h k n s q u = simp (ne-eqb k 1 u)
 
-module _ (z : Settings) (fair : Fair z) (key : Key) (q : ℕ) {l : Layer} {f : List ℕ} {h k n s : ℕ} (p : ToSeal l f h k n s) where
+module _ (z : Settings) (key : Key) (q : ℕ) {l : Layer} {f : List ℕ} {h k n s : ℕ} (p : ToSeal l f h k n s) where
   within : h ≤ length f
   within = plain-to-seal l f h (p .unsecured) .within
 
@@ -118,15 +118,6 @@ module _ (z : Settings) (fair : Fair z) (key : Key) (q : ℕ) {l : Layer} {f : L
       (omega (arith, seal-length (aes128 (key .octets)) (z .tag) (nonceOf z s n (wireControl k)) (authentic z l x f h) (drop h f)))
       ∙ ap (λ (m : ℕ). secured (fieldsOf h m (wireControl k) n s (if eqb k 1 then q else 0))) (sent-length k n s q)
 
-  pub message-again : messageOf z key (sealedFrame z key l k n s q f h) (announcing h k n s q) ≡ valid (drop h f)
-  unfolding messageOf
-  message-again =
-      ap₂ (ccmOpen (aes128 (key .octets)) (z .tag) (nonceOf z s n (wireControl k)))
-      (authentic-in z l x f h (sentOctets k) (sent-length k n s q) within (sealedFrame z key l k n s q f h)
-      (ap (take (h + sentOctets k)) parts ∙ take-at both-headers body (h + sentOctets k) both-length))
-      (ap (drop (h + sentOctets k)) parts ∙ drop-at both-headers body (h + sentOctets k) both-length)
-      ∙ open-seal (aes128 (key .octets)) (aes-blocky (key .octets)) (z .tag) (nonceOf z s n (wireControl k)) (authentic z l x f h) (drop h f) (tag-most (z .tag) (fair .tag))
-
   pub plain-again : plainFrame l (sealedFrame z key l k n s q f h) (announcing h k n s q) (drop h f) ≡ f
   unfolding plainFrame
   plain-again =
@@ -134,35 +125,47 @@ module _ (z : Settings) (fair : Fair z) (key : Key) (q : ℕ) {l : Layer} {f : L
       (ap (λ (g : List ℕ). plainHeader l g h) behind ∙ plain-header-again l f h (p .unsecured) (p .octets) (x ++ body))
       ∙ take-append-drop h f
 
-  -- ---- by the routines, where the secured frame is not too long
+  -- ---- under settings that are fair
 
-  module _ (short : length f + sentOctets k + z .tag ≤ longest) where
-    from-two : 2 ≤ h
-    from-two = go l (plain-to-seal l f h (p .unsecured) .least)
-      where
-        go : (l : Layer) → leastHeader l ≤ h → 2 ≤ h
-        go Network b = omega arith
-        go Aps b = b
+  module _ (fair : Fair z) where
+    pub message-again : messageOf z key (sealedFrame z key l k n s q f h) (announcing h k n s q) ≡ valid (drop h f)
+    unfolding messageOf
+    message-again =
+        ap₂ (ccmOpen (aes128 (key .octets)) (z .tag) (nonceOf z s n (wireControl k)))
+        (authentic-in z l x f h (sentOctets k) (sent-length k n s q) within (sealedFrame z key l k n s q f h)
+        (ap (take (h + sentOctets k)) parts ∙ take-at both-headers body (h + sentOctets k) both-length))
+        (ap (drop (h + sentOctets k)) parts ∙ drop-at both-headers body (h + sentOctets k) both-length)
+        ∙ open-seal (aes128 (key .octets)) (aes-blocky (key .octets)) (z .tag) (nonceOf z s n (wireControl k)) (authentic z l x f h) (drop h f) (tag-most (z .tag) (fair .tag))
 
-    sound-again : Sound z (sealedFrame z key l k n s q f h) (announcing h k n s q)
-    sound-again =
-        let b = within in
-        record { headed = from-two; whole = omega (arith, length-again); short = omega (arith, length-again) }
+    -- ---- by the routines, where the secured frame is not too long
 
-    pub looking-again : looking z key (sealedFrame z key l k n s q f h) (announcing h k n s q) ≡ true
-    unfolding looking genuine
-    looking-again = simp (tells-sound z (sealedFrame z key l k n s q f h) (announcing h k n s q) sound-again, message-again)
+    module _ (short : length f + sentOctets k + z .tag ≤ longest) where
+      from-two : 2 ≤ h
+      from-two = go l (plain-to-seal l f h (p .unsecured) .least)
+        where
+          go : (l : Layer) → leastHeader l ≤ h → 2 ≤ h
+          go Network b = omega arith
+          go Aps b = b
 
-    module _ (o : List ℕ) (room : longest ≤ length o) where
-      pub sealing-again : sealing z key l k n s q f h o ≡ wrote (sealedFrame z key l k n s q f h) o
-      sealing-again =
-          sealing-makes z key l k n s q f h o (omega (arith, low)) (record { headed = from-two; within = within; short = short }) room
+      sound-again : Sound z (sealedFrame z key l k n s q f h) (announcing h k n s q)
+      sound-again =
+          let b = within in
+          record { headed = from-two; whole = omega (arith, length-again); short = omega (arith, length-again) }
 
-      pub unsealing-again : unsealing z key l (sealedFrame z key l k n s q f h) (announcing h k n s q) o ≡ wrote f o
-      unsealing-again =
-          unsealing-is z fair key l (sealedFrame z key l k n s q f h) (announcing h k n s q) o sound-again room
-          ∙ ap (unsealedOnto l (sealedFrame z key l k n s q f h) (announcing h k n s q) o) message-again
-          ∙ ap (λ (u : List ℕ). wrote u o) plain-again
+      pub looking-again : looking z key (sealedFrame z key l k n s q f h) (announcing h k n s q) ≡ true
+      unfolding looking genuine
+      looking-again = simp (tells-sound z (sealedFrame z key l k n s q f h) (announcing h k n s q) sound-again, message-again)
+
+      module _ (o : List ℕ) (room : longest ≤ length o) where
+        pub sealing-again : sealing z key l k n s q f h o ≡ wrote (sealedFrame z key l k n s q f h) o
+        sealing-again =
+            sealing-makes z key l k n s q f h o (omega (arith, low)) (record { headed = from-two; within = within; short = short }) room
+
+        pub unsealing-again : unsealing z key l (sealedFrame z key l k n s q f h) (announcing h k n s q) o ≡ wrote f o
+        unsealing-again =
+            unsealing-is z fair key l (sealedFrame z key l k n s q f h) (announcing h k n s q) o sound-again room
+            ∙ ap (unsealedOnto l (sealedFrame z key l k n s q f h) (announcing h k n s q) o) message-again
+            ∙ ap (λ (u : List ℕ). wrote u o) plain-again
 
 -- ---- octets
 
