@@ -52,7 +52,7 @@ def add_writing(script):
         inner = INNER + run_of(length - 20)
         script.ask(room, "tunnel", DEVICE_FIELD, inner, gives=done(0x01, front + inner))
     script.group("tunnel, 11: under 20 octets; 2: over 108 with the header (DECISIONS, "
-                 "writers-11), so an inner frame of 98")
+                 "writers-order), so an inner frame of 98")
     script.mostly("tunnel", DEVICE_FIELD, INNER[:19], gives=11)
     script.once("tunnel", DEVICE_FIELD, b"", gives=11)
     script.mostly("tunnel", DEVICE_FIELD, INNER + run_of(78), gives=2)

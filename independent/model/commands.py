@@ -2,7 +2,7 @@
 
 Document 01, "The commands" and the table of refusals; the fields' order is that of source document
 000, 4.4.11.1 to 4.4.11.10; DECISIONS, addresses-unjudged, relay-any-tlv, readers-header,
-parts-empty and writers-11.
+parts-empty and writers-order.
 """
 
 from dataclasses import dataclass
