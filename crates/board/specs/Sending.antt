@@ -1,4 +1,4 @@
--- Document 01: sealing "answers the length, and raises the outgoing counter by 1"; the counter is "never lowered (ours)",
+-- Document 01 (RULES 8.2): sealing "answers the length, and raises the outgoing counter by 1"; the counter is "never lowered (ours)",
 -- and 4,294,967,295 is the top that sealing refuses (7).
 -- Assumes nothing.
 use mathlib.Core.List.{List}
