@@ -42,7 +42,7 @@ def add_identifiers(bench):
     """The keys of the identifiers, and one floor for the three."""
     fresh(bench)
     bench.group("aps: identifiers 0, 2 (over 0x00) and 3 (over 0x02), 13 and 5 octets; "
-                "part 3, point 13")
+                "RULES 6.4")
     counter = 0
     for identifier in (0, 2, 3):
         for carried in (True, False):
@@ -61,8 +61,8 @@ def add_identifiers(bench):
                      + PARTNER.to_bytes(8, "little"))
         bench.open_aps(0, sealed(octets, b"\x61\x07", auxiliary, PARTNER, counter,
                                  0x25 | name << 3, b"\x01"), no(9))
-    bench.group("part 3, point 7: a counter opened under one identifier is stale under the others; "
-                "part 2, point 11: genuine or altered is said here too")
+    bench.group("RULES 2.5: a counter opened under one identifier is stale under the others; "
+                "DECISIONS, stale-field-for-aps: genuine or altered is said here too")
     for first in (0, 2, 3):
         hear(bench, aps_frame(key(1), first, PARTNER, counter), first, COMMAND_HEADER)
         for second in (0, 2, 3):
@@ -80,14 +80,16 @@ def add_identifiers(bench):
 def add_callers(bench):
     """The sender that the caller gives."""
     fresh(bench)
-    bench.group("part 1, point 5: where the frame carries a sender the caller's is ignored")
+    bench.group("DECISIONS, callers-sender: where the frame carries a sender the caller's is "
+                "ignored")
     counter = 0
     for caller in (0, ALL_ONES, FRIEND, STRANGER, OWN, PARTNER):
         hear(bench, aps_frame(key(1), 0, PARTNER, counter, b"\x21"), 0, COMMAND_HEADER + b"\x21",
              caller=caller)
         bench.open_aps(caller, COMMAND_HEADER + b"\x21", unsecured(COMMAND_HEADER + b"\x21"))
         counter += 1
-    bench.group("part 1, point 6: the caller's address goes into the nonce and nowhere else")
+    bench.group("DECISIONS, five-octet-form: the caller's address goes into the nonce and nowhere "
+                "else")
     short = aps_frame(key(1), 0, PARTNER, counter, b"\x22", carried=False)
     bench.open_aps(FRIEND, short, no(9))
     bench.open_aps(STRANGER, short, no(6))
@@ -154,7 +156,7 @@ def add_cuts(bench):
             for length in range(turn % 2, len(frame), 1 if turn in (0, 4) else 2):
                 bench.open_aps(PARTNER, frame[:length], no(3))
             hear(bench, frame, 0, header, caller=PARTNER)
-    bench.group("part 1, point 4: unsecured frames: the header alone opens, an octet less is short")
+    bench.group("DECISIONS, unsecured-header: the header alone opens, an octet less is short")
     for header in HEADERS:
         bench.open_aps(0, header[:-1], no(3))
         bench.open_aps(0, header, unsecured(header))
@@ -183,7 +185,8 @@ def add_orders(bench):
     fresh(bench)
     hear(bench, aps_frame(key(1), 0, PARTNER, 9), 0, COMMAND_HEADER)
     good = aps_frame(key(1), 0, PARTNER, 20, run_of(40))
-    bench.group("part 1, point 1: 116 octets of output at this layer too; lists are not judged")
+    bench.group("DECISIONS, room-for-aps: 116 octets of output at this layer too; lists are not "
+                "judged")
     for lent in ((115, 64, 64), (108, 64, 64), (0, 0, 0)):
         bench.lend(*lent)
         for frame in (bytes(109), b"", COMMAND_HEADER, good):
@@ -249,7 +252,7 @@ def add_sealing(bench):
             bench.seal_aps(OWN, identifier, header + payload, ok(frame))
             hear(bench, frame, identifier, header + payload, OWN)
             counter += 1
-    bench.group("part 3, point 8: one counter for all keys and both layers")
+    bench.group("RULES 2.1: one counter for all keys and both layers")
     bench.seal(NETWORK_HEADER, ok(network_frame(key(4), 5, OWN, counter)))
     bench.seal_aps(PARTNER, 0, COMMAND_HEADER, ok(aps_frame(key(1), 0, OWN, counter + 1)))
     bench.seal_aps(FRIEND, 2, COMMAND_HEADER, ok(aps_frame(key(2), 2, OWN, counter + 2)))
@@ -267,7 +270,8 @@ def add_sealing(bench):
 
 def add_sealing_orders(bench, counter):
     """The order of refusals when sealing, and every form."""
-    bench.group("sealaps: 2, 3, 4, 3, 14, 6; part 3, point 9; part 1, point 7: partner 0 is 6")
+    bench.group("sealaps: 2, 3, 4, 3, 14, 6 (RULES 8.3); DECISIONS, seal-for-nobody: partner 0 is "
+                "6")
     for partner, identifier, octets, number in (
             (STRANGER, 1, bytes(92), 2), (STRANGER, 1, b"", 3), (STRANGER, 1, b"\x03", 4),
             (STRANGER, 1, b"\x61", 4), (STRANGER, 1, b"\x41", 3), (STRANGER, 1, b"\x0c" * 8, 3),

@@ -122,7 +122,7 @@ def add_tlvs(bench):
             if word in WITH_TLVS and (word != "up" or tlvs in (b"\x01\xff" + bytes(40),)):
                 read(bench, UNDER[word][0], body, no(11))
                 bench.add("tlv", UNDER[word][0], 1, b"\x41\x07" + body, expect=ok(""))
-    bench.group("part 1, point 15: Relay: any TLV of tag 0 with 8 or more octets; tlv: the first")
+    bench.group("DECISIONS, relay-any-tlv: any TLV of tag 0 with 8 or more octets; tlv: the first")
     for tlvs, good in ((b"", False), (b"\x00\x07" + bytes(7), False),
                        (b"\x01\x08" + bytes(8), False),
                        (b"\x00\x00" + RELAY, True), (RELAY + b"\x00\x01z", True),
@@ -140,7 +140,7 @@ def add_tlvs(bench):
 
 def add_values(bench):
     """The values of tags, missing, refused, first of several."""
-    bench.group("tlv: first of several, empty, missing; part 1, point 17; part 2, point 12")
+    bench.group("tlv: first of several, empty, missing; DECISIONS, parts-empty")
     body = b"\x06" + WIRE_DEVICE + b"\x08\x3c\x01" + b"\x07\x02ab\x08\x00\x07\x01c\xff\x03xyz"
     frame = b"\x41\x07" + body
     for tag, value in ((7, b"ab"), (8, b""), (255, b"xyz"), (0, b""), (6, b"")):
@@ -177,7 +177,7 @@ def add_identifiers(bench):
     read(bench, 0, b"\x08\x02", no(11))
     read(bench, 0, b"\x08\x04" + bytes(8), no(11))
     bench.group("read: status, flag and type fields are handed on unjudged; "
-                "part 1, point 14: addresses too")
+                "DECISIONS, addresses-unjudged: addresses too")
     for octet in (0, 1, 127, 255):
         for sender in (0, ALL_ONES):
             wire, text = sender.to_bytes(8, "little"), address(sender)
@@ -193,7 +193,7 @@ def add_identifiers(bench):
 def add_order(bench):
     """The reader's refusals in their order."""
     body = b"\x09\x05"
-    bench.group("part 3, point 10: 14 first, even with 200 octets; then 2, 3, 4, 3, 4, 11, 12")
+    bench.group("RULES 9.4: 14 first, even with 200 octets; then 2, 3, 4, 3, 4, 11, 12")
     for protection in (1, 4, 100, 255):
         for octets in (bytes(200), b"", b"\x41\x07" + body):
             bench.add("read", protection, octets, expect=no(14))
@@ -204,7 +204,8 @@ def add_order(bench):
             bench.add("read", protection, octets, expect=no(number))
     read(bench, 2, body, no(12))
     read(bench, 3, body + b"\x00", no(11))
-    bench.group("part 1, point 16: data and acks: their own header's 3, then 4; secured commands 4")
+    bench.group("DECISIONS, readers-header: data and acks: their own header's 3, then 4; secured "
+                "commands 4")
     for control, length in ((0x40, 8), (0x08, 8), (0x0C, 9), (0x02, 8), (0x12, 2), (0x61, 2),
                             (0x29, 2), (0x20, 8)):
         for size in (1, length - 1, length, length + 5):
@@ -219,7 +220,7 @@ def add_writing(bench):
     bench.board(OWN, 77)
     counter = 0
     for turn, tlvs in enumerate((b"",) + TLV_SETS):
-        bench.group(f"write, then read back: TLVs {tlvs.hex() or 'none'}; part 3, point 12: "
+        bench.group(f"write, then read back: TLVs {tlvs.hex() or 'none'}; RULES 1.2: "
                     "numbers least octet first, keys and hashes in order")
         for word, fields, body in bodies(tlvs):
             if turn and word not in WITH_TLVS:
@@ -236,7 +237,7 @@ def add_writing(bench):
 
 def add_limits(bench, counter):
     """106 octets of command are written, 107 are 2."""
-    bench.group("part 1, point 18: a frame of 108 octets is written, one of 109 is 2")
+    bench.group("DECISIONS, writers-order: a frame of 108 octets is written, one of 109 is 2")
     for word, fields, body in bodies():
         if word not in WITH_TLVS + ("tunnel",):
             continue
@@ -255,7 +256,7 @@ def add_limits(bench, counter):
 
 def add_wrong_parts(bench, counter):
     """Parts of a wrong length or form: 11, before 2; room: 1, before both."""
-    bench.group("part 2, point 8: keys, hashes and inner frames of a wrong length, "
+    bench.group("DECISIONS, bad-or-refused: keys, hashes and inner frames of a wrong length, "
                 "TLVs ill formed: 11")
     for word, fields, _ in bodies():
         for place, field in enumerate(fields):
@@ -316,17 +317,18 @@ def add_wrap(bench, counter):
 
 def add_hashes(bench):
     """Hashes of lengths about the padding's edges, and their limits."""
-    bench.group("hash (M5 to M8: 13, 14, 17 and 32 octets); part 2, point 7: 257 octets are bad")
+    bench.group("hash (M5 to M8: 13, 14, 17 and 32 octets); DECISIONS, bad-or-refused: 257 octets "
+                "are bad")
     for length in (0, 1, 13, 14, 15, 16, 17, 29, 30, 31, 32, 33, 45, 46, 108, 240, 256):
         bench.add("hash", run_of(length))
     bench.add("hash", run_of(257), expect="bad")
-    bench.group("part 1, point 20: keyedhash: up to 240 octets, then 2, then bad")
+    bench.group("DECISIONS, hash-limits: keyedhash: up to 240 octets, then 2, then bad")
     for length in (0, 1, 13, 14, 16, 30, 239, 240):
         bench.add("keyedhash", KEY, run_of(length))
     for length in (241, 242, 255, 256):
         bench.add("keyedhash", KEY, run_of(length), expect=no(2))
     bench.add("keyedhash", KEY, run_of(257), expect="bad")
-    bench.group("Annex C.5 and C.6; part 1, point 21: C.6.2's longer key by two calls")
+    bench.group("Annex C.5 and C.6; DECISIONS, keyed-hash-key: C.6.2's longer key by two calls")
     for _, word, fields, published in annexc():
         if word in ("hash", "keyedhash"):
             bench.add(word, *fields, expect=ok(published))

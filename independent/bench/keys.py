@@ -35,7 +35,7 @@ def add_install(bench):
     bench.board()
     for slot in (2, 3, 128, 255):
         bench.network(slot, 7, key(1), no(14))
-    bench.group("part 3, point 5: a fresh slot has number 0 and is not present")
+    bench.group("RULES 3.2: a fresh slot has number 0 and is not present")
     bench.network(1, 0, key(1))
     bench.network(0, 0, key(2), no(14))
     bench.network(0, 255, key(2))
@@ -75,7 +75,7 @@ def add_switch(bench):
     bench.seal(NETWORK_HEADER, ok(network_frame(key(2), 8, OWN, 1)))
     switch(bench, 7, no(13))
     bench.state(2, 0, 0)
-    bench.group("part 3, point 4: the active mark stays, also on the replaced slot")
+    bench.group("RULES 3.2: the active mark stays, also on the replaced slot")
     bench.network(0, 7, key(3))
     bench.state(2, 0, 0)
     switch(bench, 8, no(13))
@@ -106,7 +106,7 @@ def add_same_key(bench, slot):
     for what, number, octets in (("another number", 6, key(1)),
                                  ("another last octet", 6, flip(key(1), 127)),
                                  ("another first octet", 6, flip(flip(key(1), 127), 0))):
-        bench.group(f"part 3, point 4: {what}: the rows of that slot only are freed")
+        bench.group(f"RULES 3.2: {what}: the rows of that slot only are freed")
         bench.network(slot, number, octets)
         bench.heard(slot)
         bench.heard(other, (rows, SENDERS[0], 4))
@@ -132,7 +132,7 @@ def add_rows(bench):
     bench.open(genuine, no(10))
     bench.group("01: the same with a bad tag is 9")
     bench.open(flip(genuine, 8 * len(genuine) - 1), no(9))
-    bench.group("part 3, point 2: 6, 7 and 8 as always, and heard senders open")
+    bench.group("RULES 7.2: 6, 7 and 8 as always, and heard senders open")
     bench.open(network_frame(key(1), 3, STRANGER, 5), no(6))
     bench.open(network_frame(key(1), 1, STRANGER, 2**32 - 1), no(7))
     bench.open(network_frame(key(1), 1, SENDERS[31], 5), GENUINE)
@@ -140,7 +140,7 @@ def add_rows(bench):
     hear(bench, key(1), 1, SENDERS[31], 8)
     full[31] = (31, SENDERS[31], 9)
     bench.heard(0, *full)
-    bench.group("slot 1 has room; its rows are 32 to 63 (part 2, point 1)")
+    bench.group("slot 1 has room; its rows are 32 to 63 (DECISIONS, heard-row-numbers)")
     for i, sender in enumerate((STRANGER, SENDERS[0], OWN)):
         hear(bench, key(2), 2, sender, i)
     bench.heard(1, (32, STRANGER, 1), (33, SENDERS[0], 2), (34, OWN, 3))
@@ -187,7 +187,8 @@ def add_full_other(bench):
 
 def add_forget(bench):
     """Forgetting: orders and ends."""
-    bench.group("forget: part 1, point 11: a slot without a key has no 6, only 13; all ones too")
+    bench.group("forget: DECISIONS, forget-without-key: a slot without a key has no 6, only 13; "
+                "all ones too")
     bench.board()
     for slot in (0, 1):
         for sender in (0, SENDERS[0], ALL_ONES):
@@ -220,7 +221,7 @@ def add_forget(bench):
 
 def add_lists(bench):
     """Lists not of 64 rows."""
-    bench.group("part 3, point 11: install and forget judge the lists before all else")
+    bench.group("RULES 2.6: install and forget judge the lists before all else")
     bench.board()
     bench.network(0, 1, key(1))
     hear(bench, key(1), 1, SENDERS[0], 5)
@@ -262,7 +263,7 @@ def add_links(bench):
     bench.link(0, key(8), no(14))
     bench.link(ALL_ONES, key(8), no(14))
     bench.links(*((i, partner, 0) for i, partner in enumerate(partners[:8])))
-    bench.group("part 3, point 6: the same key keeps the floor, other octets set it to 0")
+    bench.group("RULES 3.4: the same key keeps the floor, other octets set it to 0")
     for i, counter in ((3, 40), (7, 50)):
         bench.open_aps(0, aps_frame(key(i), 0, partners[i], counter),
                        opened(partners[i], 0, COMMAND_HEADER))
@@ -300,7 +301,7 @@ def add_unlinks(bench, partners, floors):
     bench.add("unlink", address(partners[3]), expect="ok")
     bench.link(partners[3], key(3))
     bench.open_aps(0, aps_frame(key(3), 0, partners[3], 40), opened(partners[3], 0, COMMAND_HEADER))
-    bench.group("part 1, point 8: the own address as partner and as sender")
+    bench.group("DECISIONS, own-address: the own address as partner and as sender")
     bench.add("unlink", address(partners[0]), expect="ok")
     bench.link(OWN, key(9))
     frame = aps_frame(key(9), 2, OWN, 0, b"\x05")

@@ -74,7 +74,7 @@ def add_without_board(bench):
     bench.add("keyedhash", WELL_KNOWN, "00", expect=ok(mmo.keyed(WELL_KNOWN, b"\0")))
     bench.add("keyedhash", WELL_KNOWN, bytes(241), expect=no(2))
     bench.lend()
-    bench.group("part 2, point 5: a refused board is none, and so is a bad one")
+    bench.group("DECISIONS, board-refused: a refused board is none, and so is a bad one")
     for fields in ((address(0),), (address(ALL_ONES),), (address(0), 5), (address(ALL_ONES), TOP)):
         bench.add("board", *fields, expect=no(14))
         bench.add("state", expect="bad")
@@ -104,7 +104,7 @@ def add_boards(bench):
         bench.heard(0)
         bench.heard(1)
         bench.links()
-    bench.group("part 2, point 5: board refused or bad: board, lists and counters stay")
+    bench.group("DECISIONS, board-refused: board refused or bad: board, lists and counters stay")
     bench.board(OWN, 9)
     bench.network(0, 3, key(1))
     bench.add("switch", 3, expect="ok")
@@ -127,7 +127,8 @@ def add_kept_lends(bench):
     bench.heard(0)
     bench.links()
     bench.add("switch", 3, expect=no(13))
-    bench.group("part 2, point 4: a new board keeps the lend; point 3: a lend changes no row")
+    bench.group("DECISIONS, lend-outlives-board: a new board keeps the lend; lend-keeps-rows: a "
+                "lend changes no row")
     bench.lend(116, 63, 64)
     bench.board()
     bench.network(0, 3, key(1), no(1))
@@ -136,7 +137,7 @@ def add_kept_lends(bench):
     frame = network_frame(key(1), 3, OTHER, 5)
     bench.open(frame, opened(OTHER, 1, NETWORK_HEADER))
     bench.lend(0, 0, 0)
-    bench.group("part 2, point 2: heard shows the stored rows, lent or not")
+    bench.group("DECISIONS, heard-stored-rows: heard shows the stored rows, lent or not")
     bench.heard(0, (0, OTHER, 6))
     bench.lend(256, 1024, 1024)
     bench.heard(0, (0, OTHER, 6))
@@ -166,7 +167,8 @@ def add_desk(bench):
 
 def add_fields(bench):
     """Every field of every line malformed or beyond its range; too few and too many fields."""
-    bench.group("part 2, points 7, 8 and 9: malformed fields and fields beyond their range")
+    bench.group("DECISIONS, bad-or-refused and octets-of-a-line: malformed fields and fields "
+                "beyond their range")
     turn = {kind: 0 for kind in WRONG}
     for words, kinds in all_forms():
         fields = good_fields(kinds)
@@ -201,7 +203,8 @@ def add_words(bench):
                  "write\tack\tswitch\t1", "write\tnone\trequest4", "0", "-", "ok", "refused",
                  "bad"):
         bench.raw(line, "bad")
-    bench.group("part 2, point 9: blanks, carriage return, NUL and octets beyond ASCII are bad")
+    bench.group("DECISIONS, octets-of-a-line: blanks, carriage return, NUL and octets beyond ASCII "
+                "are bad")
     for line in (b"state ", b" state", b"state\r", b"state\0", b"\0state", b"\0", b"\r", b" ",
                  b"\t",
                  b"\t\t\t", b"\tstate", b"state\t", b"hash 00", b"hash\t\t00", b"\xef\xbb\xbfstate",
@@ -218,7 +221,7 @@ def add_words(bench):
 
 def add_overlong(bench):
     """Lines longer than any good one."""
-    bench.group("part 2, point 9: a line of any length gets an answer")
+    bench.group("DECISIONS, octets-of-a-line: a line of any length gets an answer")
     for line in ("x" * 1000, "x" * 4095, "x" * 4096, "x" * 4097, "state" + " " * 5000, "\t" * 3000,
                  "hash\t" + "0" * 513, "hash\t" + "0" * 514, "hash\t" + "00" * 2048,
                  "hash\t" + "00" * 8192, "hash\t" + "00" * 256 + "\t" + "00" * 3000,
@@ -250,7 +253,7 @@ def add_fine(bench):
     bench.links((0, OTHER, 0))
     bench.raw("openaps\t" + A + "\t" + aps_frame(key(1), 0, OTHER, 4, b"\xab").hex().upper(),
               opened(OTHER, 0, COMMAND_HEADER + b"\xab"))
-    bench.group("part 2, point 6: empty hex is an empty field, read and written")
+    bench.group("DECISIONS, empty-hex: empty hex is an empty field, read and written")
     bench.raw("hash\t", ok(mmo.digest(b"")))
     bench.raw(f"keyedhash\t{K}\t", ok(mmo.keyed(key(1), b"")))
     bench.raw("open\t", no(3))
@@ -282,5 +285,5 @@ def add_bad_lines(bench):
 
 def add_last(bench):
     """The last line, which has no line feed."""
-    bench.group("part 2, point 10: the last line has no line feed")
+    bench.group("DECISIONS, end-of-input: the last line has no line feed")
     bench.add("hash", "c0", expect=ok("ae3a102a28d43ee0d4a09e22788b206c"))  # Annex C.5.1

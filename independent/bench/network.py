@@ -81,7 +81,7 @@ def add_named(bench):
     bench.open(network_frame(key(1), 0, M1_SENDER, TOP - 1), GENUINE)
     bench.open(network_frame(key(1), 0, M1_SENDER, 0), GENUINE)
     bench.group("M11: the next value gives 7 whatever the floor; "
-                "part 1, point 19: after 6, before 9")
+                "DECISIONS, heard-top: after 6, before 9")
     for sender in (M1_SENDER, SENDER):
         frame = network_frame(key(1), 0, sender, TOP)
         bench.open(frame, no(7))
@@ -93,7 +93,7 @@ def add_named(bench):
 def add_slips(bench):
     """Slips that a bench can show, with the board's own words for stale frames."""
     fresh(bench)
-    bench.group("slip, part 3, point 1: a forged frame with a high counter raises no floor")
+    bench.group("slip: a forged frame with a high counter raises no floor")
     hear(bench, network_frame(key(1), 0, SENDER, 3), NETWORK_HEADER)
     forged = network_frame(key(9), 0, SENDER, TOP - 1)
     bench.open(forged, no(9))
@@ -102,7 +102,7 @@ def add_slips(bench):
     bench.group("a forged stranger takes no row")
     bench.open(network_frame(key(9), 0, M1_SENDER, 1), no(9))
     bench.heard(0, (0, SENDER, 5))
-    bench.group("slip, part 3, point 3: worked with the wire's level 0, in both, in the nonce, in "
+    bench.group("slip: worked with the wire's level 0, in both, in the nonce, in "
                 "the authenticated octets: 9; also a header authenticated without its security bit")
     bench.open(network_frame(key(1), 0, SENDER, 5, b"\x01", worked=0x28), no(9))
     for frame in half_right(key(1), SENDER, 5, b"\x01"):
@@ -110,7 +110,7 @@ def add_slips(bench):
     hear(bench, network_frame(key(1), 0, SENDER, 5, b"\x01", worked=0x2D), NETWORK_HEADER + b"\x01")
     bench.group("slip: half-deciphered octets in a refusal's output: no line shows that output")
     bench.open(flip(network_frame(key(1), 0, SENDER, 6, run_of(60)), 8 * 85), no(9))
-    bench.group("part 3, point 14: an unsecured frame leaves the lists alone")
+    bench.group("RULES 7.2: an unsecured frame leaves the lists alone")
     bench.open(NETWORK_HEADER + b"\x02", unsecured(NETWORK_HEADER + b"\x02"))
     bench.heard(0, (0, SENDER, 6))
     bench.group("stale or forged: a low counter in a genuine frame and in altered ones")
@@ -161,7 +161,7 @@ def add_security_controls(bench):
     """All 256 security controls, each worked with as it came but for its level."""
     fresh(bench)
     bench.group("network: every security control: identifier 1 and extended nonce, else 5; "
-                "part 1, point 3: bits 6 and 7 as received")
+                "DECISIONS, bits-6-and-7: bits 6 and 7 as received")
     for control in range(256):
         frame = network_frame(key(1), 0, SENDER, control, b"\x33", control=control)
         good = control >> 3 & 7 == 5
@@ -186,7 +186,8 @@ def add_headers(bench):
             counter += 1
         bench.open(header[:-1], no(3))
         bench.open(frame[:len(header)], no(3))
-    bench.group("part 1, point 13, part 3, point 15: routes of 0, 1, 40, 127, 128 and 255 relays")
+    bench.group("DECISIONS, route-and-payload, and RULES 4.1: routes of 0, 1, 40, 127, 128 and 255 "
+                "relays")
     for count in (0, 1, 40, 127, 128, 129, 255):
         header = header_of(0x0408, count)
         whole = len(header) <= 98
@@ -200,7 +201,7 @@ def add_headers(bench):
         header = put(header_of(0x0408, 1), 9, index)
         hear(bench, network_frame(key(1), 0, SENDER, counter, header=header), header)
         counter += 1
-    bench.group("part 1, point 14: addresses in the header are not judged")
+    bench.group("DECISIONS, addresses-unjudged: addresses in the header are not judged")
     for octet in (0, 255):
         header = header_of(0x1808)[:2] + bytes([octet]) * 22
         header = put(header, 6, 1)
@@ -225,7 +226,7 @@ def add_cuts(bench):
     for length in range(len(frame)):
         bench.open(frame[:length], no(3))
     hear(bench, frame, header)
-    bench.group("part 1, point 4: unsecured: 8 octets open, 7 are short; secured 8 are short")
+    bench.group("DECISIONS, unsecured-header: 8 octets open, 7 are short; secured 8 are short")
     for length in range(8):
         bench.open(NETWORK_HEADER[:length], no(3))
     bench.open(NETWORK_HEADER, unsecured(NETWORK_HEADER))
@@ -256,7 +257,8 @@ def add_orders(bench):
     fresh(bench)
     hear(bench, network_frame(key(1), 0, SENDER, 9), NETWORK_HEADER)
     good = network_frame(key(1), 0, SENDER, 20, run_of(90))
-    bench.group("open: 1 before 2, lists too (part 1, point 2: also for an unsecured frame)")
+    bench.group("open: 1 before 2, lists too (DECISIONS, lists-before-frame: also for an unsecured "
+                "frame)")
     for lent in ((115, 64, 64), (0, 64, 64), (116, 63, 64), (116, 64, 63), (116, 65, 65),
                  (256, 1024, 1024)):
         bench.lend(*lent)
@@ -340,7 +342,7 @@ def add_sealing_top(bench):
     bench.group("seal: 6 before 7")
     bench.seal(NETWORK_HEADER, no(6))
     bench.seal(NETWORK_HEADER[:7], no(3))
-    bench.group("01: outgoing 4294967294 is sealed; then 7, and there it stays (part 3, point 16)")
+    bench.group("01: outgoing 4294967294 is sealed; then 7, and there it stays (RULES 8.2)")
     bench.board(OWN, TOP - 1)
     bench.network(0, 9, key(3))
     bench.network(1, 8, key(4))

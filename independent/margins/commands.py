@@ -40,7 +40,8 @@ def add_writing(script):
     def done(control, octets):
         return Done(bytes([control, APS_COUNTER]) + octets, (), (0,))
 
-    script.group("remove: after 255 comes 0; DECISIONS 14: addresses are not judged")
+    script.group("remove: after 255 comes 0; DECISIONS, addresses-unjudged: addresses are not "
+                 "judged")
     script.everywhere("remove", DEVICE_FIELD, gives=done(0x41, b"\x07" + DEVICE))
     for octet in (0, 0xFF):
         script.once("remove", f"{octet:02x}" * 8, gives=done(0x41, b"\x07" + bytes([octet]) * 8))
@@ -50,8 +51,8 @@ def add_writing(script):
     for room, length in ((115, 95), (116, 96), (108, 97), (256, 97)):
         inner = INNER + run_of(length - 20)
         script.ask(room, "tunnel", DEVICE_FIELD, inner, gives=done(0x01, front + inner))
-    script.group("tunnel, 11: under 20 octets; 2: over 108 with the header (DECISIONS 18), so an "
-                 "inner frame of 98")
+    script.group("tunnel, 11: under 20 octets; 2: over 108 with the header (DECISIONS, "
+                 "writers-order), so an inner frame of 98")
     script.mostly("tunnel", DEVICE_FIELD, INNER[:19], gives=11)
     script.once("tunnel", DEVICE_FIELD, b"", gives=11)
     script.mostly("tunnel", DEVICE_FIELD, INNER + run_of(78), gives=2)
@@ -62,7 +63,8 @@ def add_writing(script):
 
 def add_down(script, done):
     """Relay down written."""
-    script.group("down: TLVs of 10 to 105 octets; DECISIONS 15: any TLV of tag 0 may be the one")
+    script.group("down: TLVs of 10 to 105 octets; DECISIONS, relay-any-tlv: any TLV of tag 0 may "
+                 "be the one")
     script.everywhere("down", TLVS + RELAY, gives=done(0x41, b"\x11" + TLVS + RELAY))
     for tlvs in (b"\x00\x08relaying", b"\x00\x00" + RELAY, b"\x00\x67" + run_of(103)):
         script.once("down", tlvs, gives=done(0x41, b"\x11" + tlvs))
@@ -94,7 +96,7 @@ def add_parts(script):
             for under in ("none", 0, 2, 3):
                 script.add(part, under, FRONT + body,
                            expect=ok(octets if under in protections else b""))
-    script.group("DECISIONS 17: parts that a command lacks, in turn")
+    script.group("DECISIONS, parts-empty: parts that a command lacks, in turn")
     for turn, (protections, body, parts) in enumerate(COMMANDS.values()):
         for part in lacked(parts, turn):
             script.add(part, protections[0], FRONT + body, expect=ok(b""))
@@ -136,7 +138,7 @@ def add_values(script):
     for word in ("down", "up"):
         script.add("value", "none", 0, FRONT + COMMANDS[word][1], expect=ok(RELAYED))
     script.group("value: first of several, empty, tags 0 and 255, missing; the first of tag 0, "
-                 "however short (DECISIONS 15); the longest")
+                 "however short (DECISIONS, relay-any-tlv); the longest")
     front = FRONT + b"\x06" + DEVICE + b"\x57\x58\x59"
     tlvs = b"\x07\x02ab\x08\x00\x07\x01c\x00\x03def\x00\x01g\xff\x02hi\xff\x00"
     for tag, value in ((7, b"ab"), (8, b""), (0, b"def"), (255, b"hi"), (1, b"")):

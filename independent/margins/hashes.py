@@ -40,7 +40,7 @@ def add_hashes(script):
         script.add("hash", run_of(length), expect=ok(chained(padded)))
     for length in (257, 300, 512):
         script.add("hash", run_of(length), expect=TOO_LONG)
-    script.group("keyedhash: DECISIONS 20: up to 240 octets; 241 and more are refused")
+    script.group("keyedhash: DECISIONS, hash-limits: up to 240 octets; 241 and more are refused")
     for length in (0, 16, 239, 240):
         digest = mmo.digest(OUTER_BLOCK + mmo.digest(INNER_BLOCK + run_of(length)))
         script.add("keyedhash", run_of(length), expect=ok(digest))

@@ -53,7 +53,8 @@ def add_open_rows(script):
     """Senders with and without rows, headers and security controls."""
     plain = NETWORK_HEADER + run_of(20)
     script.group("open: a sender without a row takes the lowest free one of its slot; also where "
-                 "slot 1 has it; a link partner; the board itself (DECISIONS 8)")
+                 "slot 1 has it; a link partner; the board itself "
+                 "(DECISIONS, own-address)")
     script.mostly("open", network(STRANGER, 0, run_of(20)), gives=heard(plain, STRANGER, 0, 1))
     for sender, counter in ((0xC20, 0), (A1, 99), (OWN, 7), (ALL_ONES - 1, 5), (STRANGER, TOP - 1)):
         script.once("open", network(sender, counter, run_of(20)),
@@ -63,7 +64,7 @@ def add_open_rows(script):
         script.once("open", network(0xC00 + row, counter, run_of(20), number=6),
                     gives=heard(plain, 0xC00 + row, counter, row))
     script.group("open: long addresses, source routes, end device; the wire's level is read as "
-                 "anything, bits 6 and 7 as received (DECISIONS 3)")
+                 "anything, bits 6 and 7 as received (DECISIONS, bits-6-and-7)")
     for header in ODD_HEADERS[2::3]:
         script.once("open", network(B1, 300, b"\x31\x32", header=header),
                     gives=heard(header + b"\x31\x32", B1, 300, 0))
@@ -81,7 +82,8 @@ def add_open_refusals(script):
     cases = (
         (2, "over 116 octets, genuine or not", network(B1, 150, run_of(91)),
          (NETWORK_HEADER + run_of(109), run_of(512))),
-        (3, "M12: 25 octets; and other cuts (DECISIONS 4)", network(B1, 150)[:25],
+        (3, "M12: 25 octets; and other cuts (DECISIONS, unsecured-header)",
+         network(B1, 150)[:25],
          (b"", good[:8], NETWORK_HEADER[:7], header_of(0x0408, 4)[:-1])),
         (4, "type, discovery, multicast, bit 14", put(good, 0, 0x0A),
          (put(good, 0, 0x88), put(good, 1, 0x03), put(good, 1, 0x42))),
@@ -90,7 +92,8 @@ def add_open_refusals(script):
          (network(B1, 150, control=0x08), network(0, 150), network(ALL_ONES, 150))),
         (6, "no such sequence number", network_frame(KEYS[5], 4, B1, 150, run_of(30)),
          (network_frame(KEYS[6], 7, 0xC20, 150), network_frame(KEYS[5], 255, STRANGER, TOP))),
-        (7, "the top counter (M11), also without a row, forged or in a full slot (DECISIONS 19)",
+        (7, "the top counter (M11), also without a row, forged or in a full slot (DECISIONS, "
+         "heard-top)",
          network(B1, TOP, run_of(30)),
          (network(STRANGER, TOP), network(STRANGER, TOP, number=6), flip(network(B1, TOP), 205))),
         (8, "replays below the floor, genuine or forged", network(B1, 99, run_of(30)),
@@ -140,8 +143,9 @@ def heard_aps(plain, sender, counter, identifier=0):
 
 def add_open_aps(script):
     """Frames that open."""
-    script.group("openaps: unsecured frames are copied and no floor moves; DECISIONS 1: 116 octets "
-                 "of output; DECISIONS 5: the caller's address has no effect")
+    script.group("openaps: unsecured frames are copied and no floor moves; DECISIONS, "
+                 "room-for-aps: 116 octets of output; callers-sender: the caller's address has no "
+                 "effect")
     script.mostly("openaps", address(A1), COMMAND_HEADER, gives=copied(COMMAND_HEADER))
     for caller, frame in ((0, DATA_HEADER + run_of(100)), (ALL_ONES, HEADERS[5]),
                           (A3, HEADERS[6] + b"\xee" * 20)):
@@ -173,8 +177,8 @@ def add_open_aps_forms(script):
         sure(len(frame) == 108, "octets of a frame that is to have 108", len(frame))
         script.ask(116, "openaps", address(A1), frame,
                    gives=heard_aps(DATA_HEADER + run_of(length), A1, 100))
-    script.group("openaps: payloads of 0 and 17 octets; level, bits 6 and 7; DECISIONS 5: "
-                 "a carried sender counts, not the caller's")
+    script.group("openaps: payloads of 0 and 17 octets; level, bits 6 and 7; DECISIONS, "
+                 "callers-sender: a carried sender counts, not the caller's")
     for length in (0, 17):
         script.once("openaps", address(A1), aps(A1, 150, run_of(length), carried=False),
                     gives=heard_aps(COMMAND_HEADER + run_of(length), A1, 150))
@@ -192,7 +196,7 @@ def add_open_aps_refusals(script):
     cases = (
         (2, "over 108 octets, genuine or not", (A1, aps(A1, 150, run_of(84), header=DATA_HEADER)),
          ((A1, DATA_HEADER + run_of(101)), (0, run_of(512)))),
-        (3, "cut short; the tag before the caller's address (DECISIONS 5)",
+        (3, "cut short; the tag before the caller's address (DECISIONS, callers-sender)",
          (A1, aps(A1, 150)[:18]),
          ((A1, b""), (A1, good[:2]), (0, short[:-1]))),
         (4, "ack format, bit 7, type 3", (A1, put(good, 0, 0x71)),
@@ -230,8 +234,8 @@ def add_open_aps_forged(script):
         frame = aps(A2, 5, b"\x01\x02\x03\x04", identifier, carried=False)
         for place in range(11, 15):
             script.once("openaps", address(A2), flip(frame, 8 * place + 7), gives=9)
-    script.group("other controls, identifiers and senders; DECISIONS 6: the caller's address is "
-                 "in the nonce only")
+    script.group("other controls, identifiers and senders; DECISIONS, five-octet-form: the "
+                 "caller's address is in the nonce only")
     for octets in (put(good, 0, 0x21), put(good, 2, 0x30), put(good, 2, 0x00), put(good, 7, A2),
                    good[:-1], good + b"\xee", aps_frame(hashed(LINKS[A1], 3), 0, A1, 150)):
         script.once("openaps", address(A1), octets, gives=9)

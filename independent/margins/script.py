@@ -1,7 +1,7 @@
 """Puts the script of `margins` together, and checks that it shows what it must.
 
-Every line has the answer that its author expects. Numbers of DECISIONS in the script's parts are
-those under "Document 01".
+Every line has the answer that its author expects. Where a part of the script says DECISIONS, the
+name of an entry in docs/DECISIONS.md follows.
 """
 
 from ..lines import lines_of, sure

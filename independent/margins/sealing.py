@@ -71,7 +71,7 @@ def add_seal_aps(script):
          ((A3, 1, b"\x61"), (A1, 0, b"\x51\x07"))),
         (14, "identifiers 1, 4 and 255, before 6", (A1, 1, COMMAND_HEADER + run_of(20)),
          ((A1, 255, COMMAND_HEADER), (A3, 4, COMMAND_HEADER))),
-        (6, "no link entry (DECISIONS 7: zero and all ones too)",
+        (6, "no link entry (DECISIONS, seal-for-nobody: zero and all ones too)",
          (A3, 0, COMMAND_HEADER + run_of(20)),
          ((0, 0, COMMAND_HEADER), (ALL_ONES, 3, COMMAND_HEADER), (OWN, 2, COMMAND_HEADER))),
     )

@@ -1,7 +1,8 @@
 """The reader and the writer of APS commands, their parts and TLVs.
 
 Document 01, "The commands" and the table of refusals; the fields' order is that of source document
-000, 4.4.11.1 to 4.4.11.10; DECISIONS 14 to 18.
+000, 4.4.11.1 to 4.4.11.10; DECISIONS, addresses-unjudged, relay-any-tlv, readers-header,
+parts-empty and writers-order.
 """
 
 from dataclasses import dataclass

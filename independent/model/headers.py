@@ -1,7 +1,8 @@
 """The headers of both layers, the auxiliary header, the nonce and the authenticated octets.
 
 Document 01, "Layout of a network frame", "Layout of an APS frame", "The auxiliary header and the
-nonce", and the order of "Opening and sealing"; DECISIONS 3 to 6 and 13.
+nonce", and the order of "Opening and sealing"; DECISIONS, route-and-payload, bits-6-and-7,
+unsecured-header, callers-sender and five-octet-form.
 """
 
 from dataclasses import dataclass

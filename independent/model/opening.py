@@ -1,7 +1,9 @@
 """Opening and sealing at both layers, and the look that tells a stale frame from a forged one.
 
 Document 01, "The auxiliary header and the nonce" and "Opening and sealing"; the bench language,
-"Stale or forged"; DECISIONS 1 to 8, 19 and 22. The output is told by its length alone.
+"Stale or forged"; DECISIONS, room-for-aps, lists-before-frame, bits-6-and-7, unsecured-header,
+callers-sender, five-octet-form, own-address, heard-top, seal-for-nobody and look-one-key. The
+output is told by its length alone.
 """
 
 from . import ccm, headers, mmo, tables

@@ -1,6 +1,7 @@
 """The board's state and the requests that change keys.
 
-Document 01, "The state and the lists" and "Requests that change keys"; DECISIONS 9 to 12.
+Document 01, "The state and the lists" and "Requests that change keys"; DECISIONS,
+freed-row, install-14-first, forget-without-key and unlink-zero.
 """
 
 from dataclasses import dataclass, field

@@ -1,4 +1,4 @@
--- Document 01's table of refusals: the number of each; and what an answer tells, in these numbers.
+-- Document 01's table of refusals (RULES 1.5): the number of each; and what an answer tells, in these numbers.
 -- Assumes nothing.
 use Prim.Native.Nat.{ℕ}
 use Rattle.answers.specs.declared.Refusal.{Refusal}

@@ -1,4 +1,4 @@
--- Document 01, "The auxiliary header and the nonce": "APS: identifier 0 (link key), 2 (keyed hash of the link key over the
+-- Document 01, "The auxiliary header and the nonce" (RULES 6.4): "APS: identifier 0 (link key), 2 (keyed hash of the link key over the
 -- octet 0x00) or 3 (over 0x02); identifier 1 refused (ours)."
 -- Assumes nothing.
 use mathlib.Core.List.{[], _∷_}

@@ -1,5 +1,5 @@
--- Document 01, "Opening and sealing": opening an APS frame. "The sender's link entry is used." "One link entry has one floor
--- for its three keys." "A refusal returns its number and nothing else; state, lists and output stay."
+-- Document 01, "Opening and sealing" (RULES 7.3): opening an APS frame. "The sender's link entry is used." "One link entry has one
+-- floor for its three keys." "A refusal returns its number and nothing else; state, lists and output stay."
 -- Assumes nothing.
 use mathlib.Core.Bool.{Bool, false}
 use mathlib.Core.List.{List}

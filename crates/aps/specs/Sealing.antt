@@ -1,5 +1,5 @@
--- Document 01, "Opening and sealing": sealing an APS frame. "Sealing takes a plain frame: an APS frame [uses] the partner's
--- entry and identifier 0, 2 or 3 named by the caller (else 14)." "Sealing always sends the sender, 13 octets." "Sealing: 1,
+-- Document 01, "Opening and sealing" (RULES 8.3): sealing an APS frame. "Sealing takes a plain frame: an APS frame [uses] the
+-- partner's entry and identifier 0, 2 or 3 named by the caller (else 14)." "Sealing always sends the sender, 13 octets." "Sealing: 1,
 -- 2, 3, 4, 3, 14, 6, 7."
 -- Assumes nothing.
 use mathlib.Core.Bool.{Bool, not}

@@ -1,4 +1,4 @@
--- "Of several matching rows, slots or entries the lowest counts" (document 01, "The state and the lists"): the first place
+-- "Of several matching rows, slots or entries the lowest counts" (document 01, "The state and the lists"; RULES 2.4): the first place
 -- that passes a test.
 -- Assumes nothing.
 use mathlib.Core.Bool.{Bool}

@@ -1,4 +1,4 @@
--- Document 01, "Requests that change keys". Each request is a judgement in the paper's order, and what it then leaves.
+-- Document 01, "Requests that change keys" (RULES 3). Each request is a judgement in the paper's order, and what it then leaves.
 -- Assumes nothing.
 use mathlib.Core.Bool.{Bool, true, not}
 use mathlib.Core.List.{List}

@@ -1,6 +1,5 @@
--- Document 01, "The state and the lists": "The heard senders stand in two lent lists, 64-bit addresses and 32-bit floors, 64
--- rows each: rows 0 to 31 for slot 0, rows 32 to 63 for slot 1. Address 0 is a free row". How many rows a slot has is a
--- setting.
+-- Document 01, "The state and the lists" (RULES 2.3): "The heard senders stand in two lent lists, 64-bit addresses and 32-bit floors,
+-- 64 rows each: rows 0 to 31 for slot 0, rows 32 to 63 for slot 1. Address 0 is a free row". How many rows a slot has is a setting.
 -- Assumes nothing.
 use mathlib.Core.Bool.{Bool}
 use mathlib.Core.List.{List}

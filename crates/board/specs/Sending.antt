@@ -1,4 +1,4 @@
--- Document 01: sealing "writes the secured frame likewise, answers the length, and raises the outgoing counter by 1"; the
+-- Document 01 (RULES 8.2): sealing "writes the secured frame likewise, answers the length, and raises the outgoing counter by 1"; the
 -- counter is "never lowered (ours)", and sealing is refused (7) with the board's own at 4,294,967,295.
 -- Assumes nothing.
 use mathlib.Core.List.{List}

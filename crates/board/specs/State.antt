@@ -1,4 +1,4 @@
--- Document 01, "The state and the lists": "Own address; one outgoing 32-bit counter for all keys, never lowered (ours); an
+-- Document 01, "The state and the lists" (RULES 2): "Own address; one outgoing 32-bit counter for all keys, never lowered (ours); an
 -- 8-bit APS counter; two network slots (present, sequence number, 16 octets); which slot is active, if any; eight link
 -- entries (present, partner, key, floor). Fresh: both counters 0, nothing present, the rest zero."
 -- Assumes nothing.

@@ -1,5 +1,5 @@
--- Document 01, "Bench cases": "Marked M, twelve in all, are shown of the definitions, gathered as one list and one claim". M2 to
--- M8 are the cipher's.
+-- Document 01, "Bench cases" (RULES 12.1): "Marked M, twelve in all, are shown of the definitions, gathered as one list and one
+-- claim". M2 to M8 are the cipher's.
 -- Assumes nothing.
 use mathlib.Core.Path.{_≡_}
 use mathlib.Core.Bool.{true, false}

@@ -1,4 +1,4 @@
--- What the callable routines answer, in document 01's numbers, and what they leave.
+-- What the callable routines answer, in document 01's numbers (RULES 10.2 to 10.4), and what they leave.
 -- Assumes nothing.
 use mathlib.Core.Bool.{Bool, true}
 use mathlib.Core.List.{List}

@@ -1,4 +1,4 @@
--- Document 01, "Bench cases": those of the cipher that are shown of the definitions, M2 to M8, each for any octets.
+-- Document 01, "Bench cases" (RULES 12.1): those of the cipher that are shown of the definitions, M2 to M8, each for any octets.
 -- Assumes nothing.
 use mathlib.Core.Path.{_≡_}
 use mathlib.Core.List.{List, [], _∷_, _++_}

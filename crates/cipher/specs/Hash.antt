@@ -1,4 +1,4 @@
--- Annex B.6 of source document 002, and 01, "Hash": the Matyas-Meyer-Oseas hash over AES-128, and HMAC (FIPS 198) over it.
+-- Annex B.6 of source document 002, and 01, "Hash" (RULES 10): the Matyas-Meyer-Oseas hash over AES-128, and HMAC (FIPS 198) over it.
 -- Assumes nothing.
 use mathlib.Core.List.{List, _∷_, _++_}
 use Prim.Native.Nat.{ℕ, _+_, _-_, _*_, _%_}

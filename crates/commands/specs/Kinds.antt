@@ -1,5 +1,5 @@
--- Document 01, "The commands", and Table 4-31 of source document 000: the identifiers, and the inner types of Transport-Key
--- and Request-Key. "Reserved identifiers and types are 11."
+-- Document 01, "The commands" (RULES 9.1), and Table 4-31 of source document 000: the identifiers, and the inner types of
+-- Transport-Key and Request-Key. "Reserved identifiers and types are 11."
 -- Assumes nothing.
 use Prim.Native.Nat.{ℕ}
 use lib.Dec.{eqb}

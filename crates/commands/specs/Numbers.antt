@@ -1,5 +1,5 @@
--- Document 01, "How to write each place": "Where an answer is an enum, a definition gives this paper's number and values for
--- each of its cases." The identifiers are those of Table 4-31 of source document 000, the fields those of its 4.4.11; types 2
+-- Document 01, "How to write each place" (RULES 9.4): "Where an answer is an enum, a definition gives this paper's number and values
+-- for each of its cases." The identifiers are those of Table 4-31 of source document 000, the fields those of its 4.4.11; types 2
 -- and 3 of Transport-Key are named as in Table 151 of source document 002.
 -- Assumes nothing.
 use mathlib.Core.List.{List, [], _∷_}

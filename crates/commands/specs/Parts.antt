@@ -1,5 +1,5 @@
--- Document 01, "The commands": "A key, hash, inner frame, all TLVs or the value of the first TLV of a named tag is asked for
--- alone and handed back as that part of the caller's own frame (empty if refused or missing)."
+-- Document 01, "The commands" (RULES 9.5): "A key, hash, inner frame, all TLVs or the value of the first TLV of a named tag is asked
+-- for alone and handed back as that part of the caller's own frame (empty if refused or missing)."
 -- Assumes nothing.
 use mathlib.Core.List.{List}
 use Prim.Native.Nat.{ℕ, _+_, _-_}

@@ -1,5 +1,5 @@
--- Document 01, "The commands": "The reader takes a plain APS frame and its protection (not none, 0, 2 or 3: 14, first): 2, 3
--- for the control field, 4, 3 for the header, then 4 if it is no command or has its security bit set, then 11 (also with no
+-- Document 01, "The commands" (RULES 9.4): "The reader takes a plain APS frame and its protection (not none, 0, 2 or 3: 14, first): 2,
+-- 3 for the control field, 4, 3 for the header, then 4 if it is no command or has its security bit set, then 11 (also with no
 -- identifier), then 12. Status, flag and other type fields are handed on unjudged. Each command is an answer of its own kind
 -- with its fields." The places of the fields are those of source document 000, 4.4.11, behind a header of 2 octets.
 -- Assumes nothing.

@@ -1,5 +1,5 @@
--- Document 01, "The commands": "The writer does the reverse." The words in which that is said: what a frame that was written
--- gives when it is read, and what is lent to write a frame again that was read.
+-- Document 01, "The commands" (RULES 9.6): "The writer does the reverse." The words in which that is said: what a frame that was
+-- written gives when it is read, and what is lent to write a frame again that was read.
 -- Assumes nothing.
 use mathlib.Core.Path.{_≡_}
 use mathlib.Core.Bool.{Bool, true}

@@ -1,5 +1,5 @@
--- Document 01, "The commands": the list of sizes and protections. "Sizes count from the identifier." "The protection column
--- is ours."
+-- Document 01, "The commands" (RULES 9.1): the list of sizes and protections. "Sizes count from the identifier." "The protection
+-- column is ours."
 -- Assumes nothing.
 use mathlib.Core.Bool.{Bool, true, false}
 use mathlib.Core.List.{List}

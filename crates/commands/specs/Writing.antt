@@ -1,4 +1,4 @@
--- Document 01, "The commands": "The writer does the reverse, with control 0x41, or 0x01 where the caller wants no
+-- Document 01, "The commands" (RULES 9.6): "The writer does the reverse, with control 0x41, or 0x01 where the caller wants no
 -- acknowledgement. It judges 1, 11, 2, writes and answers the length as sealing does, stamps the APS counter and then raises
 -- it; after 255 comes 0. Nothing else moves it." The layouts are those of source document 000, 4.4.11.
 -- Assumes nothing.

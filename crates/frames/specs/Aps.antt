@@ -1,4 +1,4 @@
--- Document 01, "Layout of an APS frame": "Control: bits 0-1 type (0 data, 1 command, 2 ack), 2-3 delivery, 4 ack format,
+-- Document 01, "Layout of an APS frame" (RULES 5): "Control: bits 0-1 type (0 data, 1 command, 2 ack), 2-3 delivery, 4 ack format,
 -- 5 security, 6 ack request, 7 extended header. Data header: 8 octets (delivery 0 or 2) or 9 (3, group). Command header:
 -- control and counter (delivery 0 or 2). Ack header: delivery 0; 2 octets with bit 4 set, else 8. Bit 4 on other types,
 -- bit 7, type 3 and every other delivery are form 4."

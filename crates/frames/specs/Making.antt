@@ -1,4 +1,4 @@
--- Document 01, "Opening and sealing": "the plain frame (security bit cleared, auxiliary header and tag gone)", and the
+-- Document 01, "Opening and sealing" (RULES 6.8): "the plain frame (security bit cleared, auxiliary header and tag gone)", and the
 -- secured frame.
 -- Assumes nothing.
 use mathlib.Core.List.{List}

@@ -1,4 +1,4 @@
--- Document 01, "Layout of a network frame": "Control (2), destination (2), source (2), radius, sequence number, then the
+-- Document 01, "Layout of a network frame" (RULES 4): "Control (2), destination (2), source (2), radius, sequence number, then the
 -- destination and source 64-bit addresses where announced, then a source route (count n, index, 2n octets) where
 -- announced. Control bits: 0-1 type (0 data, 1 command), 2-5 version, 6-7 route discovery (0 or 1), 8 multicast,
 -- 9 security, 10 source route, 11 and 12 the long addresses, 13 end device, 14-15 zero. Any other type, version,

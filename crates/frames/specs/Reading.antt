@@ -1,5 +1,5 @@
--- Document 01, "Opening and sealing": how far a frame is read before a key is looked for. "Order when opening: .. 3 for the
--- control field, 4, 3 up to the security control, 5 for it, 3 for the rest and the tag, 5 for the sender"; "Sealing: .. 3,
+-- Document 01, "Opening and sealing" (RULES 7.1, 8.1): how far a frame is read before a key is looked for. "Order when opening: .. 3
+-- for the control field, 4, 3 up to the security control, 5 for it, 3 for the rest and the tag, 5 for the sender"; "Sealing: .. 3,
 -- 4, 3", where 4 is also "security bit already set". Each is read in the same way at both layers.
 -- Assumes nothing.
 use mathlib.Core.Bool.{Bool, true, false, not}

@@ -1,4 +1,4 @@
--- Document 01, "The auxiliary header and the nonce": security control, frame counter (4), sender (8 if the extended-nonce
+-- Document 01, "The auxiliary header and the nonce" (RULES 6): security control, frame counter (4), sender (8 if the extended-nonce
 -- bit is set), key sequence number (1 if the key identifier is 1). "Control bits: 0-2 level, 3-4 key identifier, 5
 -- extended nonce. On the wire the level is sent as 0 and read as anything; in the nonce and in the authenticated octets
 -- it is replaced by 5, other bits as received."

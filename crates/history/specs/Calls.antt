@@ -1,4 +1,4 @@
--- Demand 3 is said "over any sequence of calls": the requests of document 01 with their arguments, and what each answers.
+-- Demand 3 is said "over any sequence of calls": the requests of document 01 (RULES 11.1) with their arguments, and what each answers.
 -- Assumes nothing.
 use mathlib.Core.Bool.{Bool, true, false}
 use mathlib.Core.List.{List, [], _∷_}

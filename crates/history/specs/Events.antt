@@ -1,5 +1,5 @@
--- Document 01, "The state and the lists": "In demand 3 a key is one installation: a network slot as last replaced, or a link
--- entry as last added, whichever identifier is used. A call that changes nothing installs nothing, and a sender is forgotten
+-- Document 01, "The state and the lists" (RULES 11.2): "In demand 3 a key is one installation: a network slot as last replaced, or a
+-- link entry as last added, whichever identifier is used. A call that changes nothing installs nothing, and a sender is forgotten
 -- under the named slot's key only." What happened, and what is told by it: which key a slot or partner has, which frames were
 -- opened under it since when, and which were sealed. Nothing here looks at a board or at the lent lists.
 -- Assumes nothing.

@@ -1,5 +1,5 @@
--- Our board: "over any sequence of calls from a fresh state, each handed what the last one left", by the very definitions that
--- the contracts cite.
+-- Our board (RULES 11.1): "over any sequence of calls from a fresh state, each handed what the last one left", by the very definitions
+-- that the contracts cite.
 -- Assumes nothing.
 use mathlib.Core.Path.{_≡_}
 use mathlib.Core.List.{List, [], _∷_}

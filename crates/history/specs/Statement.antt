@@ -1,6 +1,6 @@
--- Demand 3, of any board, by its replies to any calls. "No two sealed frames carry the same outgoing counter." "A secured frame
--- is opened exactly when 01's checks of lengths, form, key, tag and room pass and its counter is below 4,294,967,295 and above
--- every counter opened before from that sender under that key since the key was installed or the sender forgotten."
+-- Demand 3 (RULES 11.6, 11.7), of any board, by its replies to any calls. "No two sealed frames carry the same outgoing counter." "A
+-- secured frame is opened exactly when 01's checks of lengths, form, key, tag and room pass and its counter is below 4,294,967,295 and
+-- above every counter opened before from that sender under that key since the key was installed or the sender forgotten."
 -- Assumes nothing.
 use mathlib.Core.Path.{_≡_}
 use mathlib.Core.Bool.{Bool, true, false, not}

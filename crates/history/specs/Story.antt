@@ -1,5 +1,5 @@
--- The story that calls and their replies tell. It is read off the calls and what was replied, the frames handed out with it, and
--- never off a board.
+-- The story that calls and their replies tell (RULES 11.3). It is read off the calls and what was replied, the frames handed out with
+-- it, and never off a board.
 -- Assumes nothing.
 use mathlib.Core.List.{List, [], _∷_, _++_}
 use Prim.Native.Nat.{ℕ}

@@ -5,8 +5,8 @@
 // proved library left; it adds nothing to it.
 mod answer;
 mod hashes;
+mod input;
 mod lent;
-mod lines;
 mod opening;
 mod parts;
 mod read;
@@ -17,5 +17,5 @@ mod writing;
 fn main() {
     let mut chunk = [0u8; 4096];
     let mut line = [0u8; 2048];
-    lines::run(&mut chunk, &mut line);
+    input::run(&mut chunk, &mut line);
 }

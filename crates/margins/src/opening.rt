@@ -1,7 +1,4 @@
 // Frames opened, at both layers, and what that leaves.
-use crate::answer::Answer;
-use crate::answer::address;
-use crate::answer::decimal;
 use crate::answer::opened;
 use crate::answer::with_output;
 use crate::lent::Lists;
@@ -10,6 +7,9 @@ use crate::lent::made_lists;
 use crate::lent::room_of;
 use crate::read::Frame;
 use board::Board;
+use lines::Answer;
+use lines::address;
+use lines::decimal;
 
 // A row of the two lists.
 struct Row {

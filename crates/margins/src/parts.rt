@@ -1,9 +1,9 @@
 // Parts of a command's frame, each asked for alone.
-use crate::answer::Answer;
 use crate::answer::done;
-use crate::answer::hex;
 use crate::read::Frame;
 use answers::Guard;
+use lines::Answer;
+use lines::hex;
 
 pub(crate) fn key(t: u64, f: Frame) -> Answer {
     let o = f.octets;

@@ -1,5 +1,4 @@
 // Which request a line is, and the form of each.
-use crate::answer::Answer;
 use crate::answer::bad;
 use crate::hashes;
 use crate::opening;
@@ -10,6 +9,7 @@ use crate::read::fields_of;
 use crate::sealing;
 use crate::writing::write;
 use commands::Command;
+use lines::Answer;
 
 pub(crate) fn answer_to(long: bool, line: &[u8]) -> Answer {
     let w = word_number(line);

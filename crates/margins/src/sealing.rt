@@ -1,12 +1,12 @@
 // Frames sealed, at both layers, and the outgoing counter that it leaves.
-use crate::answer::Answer;
-use crate::answer::decimal;
 use crate::answer::sealed;
 use crate::answer::with_output;
 use crate::lent::made_board;
 use crate::lent::room_of;
 use crate::read::Frame;
 use board::Sent;
+use lines::Answer;
+use lines::decimal;
 
 pub(crate) fn seal(size: u64, f: Frame) -> Answer {
     let o = f.octets;

@@ -1,12 +1,12 @@
 // A command written, and the APS counter that it leaves.
-use crate::answer::Answer;
-use crate::answer::decimal;
 use crate::answer::sealed;
 use crate::answer::with_output;
 use crate::lent::made_board;
 use crate::lent::room_of;
 use crate::read::Frame;
 use commands::Command;
+use lines::Answer;
+use lines::decimal;
 
 // None of the commands here has a key or a hash.
 pub(crate) fn write(size: u64, ack: bool, c: Command, rest: Frame) -> Answer {

@@ -1,4 +1,4 @@
--- Document 01, "Opening and sealing": opening a network frame. "Opening writes the plain frame at the start of the output;
+-- Document 01, "Opening and sealing" (RULES 7.2): opening a network frame. "Opening writes the plain frame at the start of the output;
 -- octets after it stay. A frame without the security bit is copied there and no table changes. The answer tells the
 -- length, the sender (0 if unsecured) and the protection found (none or the key identifier)." "A refusal returns its
 -- number and nothing else; state, lists and output stay."

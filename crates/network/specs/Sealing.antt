@@ -1,5 +1,5 @@
--- Document 01, "Opening and sealing": sealing a network frame. "Sealing takes a plain frame: a network frame uses the active
--- key. It writes the secured frame likewise, answers the length, and raises the outgoing counter by 1." "Sealing: 1, 2, 3,
+-- Document 01, "Opening and sealing" (RULES 8.2): sealing a network frame. "Sealing takes a plain frame: a network frame uses the
+-- active key. It writes the secured frame likewise, answers the length, and raises the outgoing counter by 1." "Sealing: 1, 2, 3,
 -- 4, 3, 14, 6, 7."
 -- Assumes nothing.
 use mathlib.Core.List.{List}

@@ -1,4 +1,4 @@
--- Document 01: "zero or all ones" is nobody's address: no sender's, no partner's, no board's.
+-- Document 01 (RULES 1.3): "zero or all ones" is nobody's address: no sender's, no partner's, no board's.
 -- Assumes nothing.
 use mathlib.Core.Bool.{Bool, true}
 use Prim.Native.Nat.{ℕ, _-_, _^_}

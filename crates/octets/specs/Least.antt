@@ -1,4 +1,4 @@
--- "All numbers are least octet first" (document 01, "Layout of a network frame").
+-- "All numbers are least octet first" (document 01, "Layout of a network frame"; RULES 1.2).
 -- Assumes nothing.
 use mathlib.Core.List.{List, [], _∷_}
 use Prim.Native.Nat.{ℕ, zero, suc, _+_, _*_, _/_, _%_}

@@ -1,4 +1,4 @@
--- Lists of octets, as the papers read and write them. An octet is a number, a string of octets a list of them.
+-- Lists of octets, as the papers read and write them (RULES 1.2). An octet is a number, a string of octets a list of them.
 -- Assumes nothing.
 use mathlib.Core.Bool.{Bool, true, false}
 use mathlib.Core.List.{List, [], _∷_, _++_}

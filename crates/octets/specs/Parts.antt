@@ -1,5 +1,5 @@
 -- A part of what a caller lent, handed back: which memory it stands in, where it starts, and its octets (document 01, "How to
--- write each place": "handed back as that part of the caller's own frame").
+-- write each place"; RULES 9.5: "handed back as that part of the caller's own frame").
 -- Assumes nothing.
 use mathlib.Core.List.{List}
 use Prim.Native.Nat.{ℕ, _+_}

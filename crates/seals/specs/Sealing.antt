@@ -1,4 +1,4 @@
--- Document 01, "The auxiliary header and the nonce" and "Opening and sealing": what both layers do with a frame once they
+-- Document 01, "The auxiliary header and the nonce" and "Opening and sealing" (RULES 6.7): what both layers do with a frame once they
 -- have its key. "L is 2, the tag M is 4 octets".
 -- Assumes nothing.
 use mathlib.Core.Path.{_≡_}

@@ -1,4 +1,4 @@
--- Document 01, "The commands": "TLVs are zero or more of: a tag octet, a length octet n and n octets, filling the rest
+-- Document 01, "The commands" (RULES 9.3): "TLVs are zero or more of: a tag octet, a length octet n and n octets, filling the rest
 -- exactly."
 -- Assumes nothing.
 use mathlib.Core.List.{List, [], _∷_}

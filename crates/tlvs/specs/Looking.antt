@@ -1,5 +1,5 @@
--- Document 01, "The commands": "the value of the first TLV of a named tag"; and Relay's rule, "at least one of tag 0 with 8
--- or more octets".
+-- Document 01, "The commands" (RULES 9.3): "the value of the first TLV of a named tag"; and Relay's rule, "at least one of tag 0 with
+-- 8 or more octets".
 -- Assumes nothing.
 use mathlib.Core.Bool.{Bool, true, false}
 use mathlib.Core.List.{List, [], _∷_}

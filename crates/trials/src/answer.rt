@@ -1,46 +1,10 @@
-// What follows a line's number, by value: each function adds one field.
+// Answers in the words of the bench language.
 use answers::Outcome;
 use answers::Refusal;
-
-// The longest answer tells 128 rows, with at most 32 octets each.
-pub struct Answer {
-    pub n: usize,
-    pub octets: [u8; 8192],
-}
-
-pub(crate) fn first(word: &[u8]) -> Answer {
-    let mut octets = [0u8; 8192];
-    let n = text::put(&mut octets, 0, word);
-    Answer { n, octets }
-}
-
-pub(crate) fn word(a: Answer, w: &[u8]) -> Answer {
-    let mut octets = a.octets;
-    let from = text::put(&mut octets, a.n, b"\t");
-    let n = text::put(&mut octets, from, w);
-    Answer { n, octets }
-}
-
-pub(crate) fn decimal(a: Answer, x: u64) -> Answer {
-    let mut octets = a.octets;
-    let from = text::put(&mut octets, a.n, b"\t");
-    let n = text::put_decimal(&mut octets, from, x);
-    Answer { n, octets }
-}
-
-pub(crate) fn address(a: Answer, x: u64) -> Answer {
-    let mut octets = a.octets;
-    let from = text::put(&mut octets, a.n, b"\t");
-    let n = text::put_address(&mut octets, from, x);
-    Answer { n, octets }
-}
-
-pub(crate) fn hex(a: Answer, src: &[u8]) -> Answer {
-    let mut octets = a.octets;
-    let from = text::put(&mut octets, a.n, b"\t");
-    let n = text::put_hex(&mut octets, from, src);
-    Answer { n, octets }
-}
+use lines::Answer;
+use lines::decimal;
+use lines::first;
+use lines::word;
 
 pub(crate) fn flag(a: Answer, is: bool) -> Answer {
     if is {
@@ -79,11 +43,7 @@ pub(crate) fn told(outcome: Outcome) -> Answer {
 
 // Writes an answer behind its line's number.
 pub(crate) fn say(number: u64, a: Answer) {
-    let octets = a.octets;
-    let mut out = [0u8; 8192];
-    let at = text::put_decimal(&mut out, 0, number);
-    let from = text::put(&mut out, at, b"\t");
-    let to = text::put(&mut out, from, text::front(&octets, a.n));
-    let end = text::put(&mut out, to, b"\n");
-    io::write_all(1, text::front(&out, end));
+    let line = lines::whole_line(number, a);
+    let octets = line.octets;
+    io::write_all(1, text::front(&octets, line.n));
 }

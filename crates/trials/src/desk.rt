@@ -1,8 +1,8 @@
 // What stays from line to line.
-use crate::answer::Answer;
 use crate::answer::bad;
 use crate::answer::done;
 use board::Board;
+use lines::Answer;
 
 // The board, if one was made, the stored lists, and how many rows of each are lent. All of it goes
 // by value, the lists too: a list lent down to here would be paid for in every branch.

@@ -1,12 +1,7 @@
 // Requests on frames, which need no board.
-use crate::answer::Answer;
-use crate::answer::address;
 use crate::answer::bad;
-use crate::answer::decimal;
 use crate::answer::done;
-use crate::answer::hex;
 use crate::answer::refused;
-use crate::answer::word;
 use crate::read::address_of;
 use crate::read::count_of;
 use crate::read::frame_of;
@@ -15,6 +10,11 @@ use crate::read::octet_of;
 use frames::Layer;
 use frames::Read;
 use frames::Secured;
+use lines::Answer;
+use lines::address;
+use lines::decimal;
+use lines::hex;
+use lines::word;
 
 pub(crate) fn frame(line: &[u8]) -> Answer {
     let f = lone_frame(line);

@@ -6,8 +6,8 @@
 mod answer;
 mod desk;
 mod headers;
+mod input;
 mod keys;
-mod lines;
 mod lists;
 mod raw;
 mod read;
@@ -15,6 +15,7 @@ mod requests;
 mod show;
 
 fn main() {
+    let mut chunk = [0u8; 4096];
     let mut line = [0u8; 2048];
-    lines::run(&mut line);
+    input::run(&mut chunk, &mut line);
 }

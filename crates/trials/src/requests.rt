@@ -1,5 +1,4 @@
 // Which request a line is.
-use crate::answer::Answer;
 use crate::answer::bad;
 use crate::desk::Desk;
 use crate::desk::Reply;
@@ -9,6 +8,7 @@ use crate::keys;
 use crate::lists;
 use crate::raw;
 use crate::show;
+use lines::Answer;
 
 // The words stand in runs: 0 to 8 change a board, 9 to 12 show it, 13 and 14 change the desk, with
 // a board or without, and the rest ask for neither. The runs are parted before the words are, since

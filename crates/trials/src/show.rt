@@ -1,15 +1,15 @@
 // The tables, told whole: also what a free place holds.
-use crate::answer::Answer;
-use crate::answer::address;
-use crate::answer::decimal;
 use crate::answer::done;
 use crate::answer::flag;
-use crate::answer::hex;
-use crate::answer::word;
 use board::Active;
 use board::Board;
 use board::Link;
 use board::Slot;
+use lines::Answer;
+use lines::address;
+use lines::decimal;
+use lines::hex;
+use lines::word;
 
 pub(crate) fn counters(b: Board) -> Answer {
     let own = address(done(), b.own);

@@ -1,22 +1,28 @@
 use Prim.{Unit, tt}
 use borrow.Author.Needs.{needs}
-use Rattle.margins.proofs.lines.next_line.Statement.{statement}
-use Rattle.margins.proofs.lines.next_line.Tie as tie
+use Rattle.trials.proofs.input.run.Statement.{statement}
+use Rattle.trials.proofs.input.run.Tie as tie
 
 abbrev Inv-loop : tie.InvT-loop
-Inv-loop chunk₀ line₀ now₀ turns₀ chunk line now turns = Unit {0}
+Inv-loop chunk₀ line₀ reader₀ desk₀ turns₀ chunk line reader desk turns = Unit {0}
 
 abbrev μ-loop : tie.MeasureT-loop
-μ-loop chunk₀ line₀ now₀ turns₀ chunk line now turns = turns
+μ-loop chunk₀ line₀ reader₀ desk₀ turns₀ chunk line reader desk turns = turns
 
-begun-line-requires : tie.Need-begun-line-requires Inv-loop μ-loop
-begun-line-requires c κs = search needs
+fresh-stop-requires : tie.Need-fresh-stop-requires Inv-loop μ-loop
+fresh-stop-requires c κs = search needs
+
+fresh-desk-requires : tie.Need-fresh-desk-requires Inv-loop μ-loop
+fresh-desk-requires c κs = search needs
 
 loop-holds : tie.Need-loop-holds Inv-loop μ-loop
 loop-holds c = tt
 
 read-on-requires : tie.Need-read-on-requires Inv-loop μ-loop
 read-on-requires c κs = search needs
+
+answer-line-requires : tie.Need-answer-line-requires Inv-loop μ-loop
+answer-line-requires c κs = search needs
 
 sub-turns : tie.Need-sub-turns Inv-loop μ-loop
 sub-turns c = search needs
@@ -33,21 +39,19 @@ returns c = search needs
 returns-2 : tie.Need-returns-2 Inv-loop μ-loop
 returns-2 c = search needs
 
-returns-3 : tie.Need-returns-3 Inv-loop μ-loop
-returns-3 c = search needs
-
-pub next-line-spec : {M : Type 1} → statement M
-next-line-spec =
+pub run-spec : {M : Type 1} → statement M
+run-spec =
     tie.close
     (tie.spec
     Inv-loop
     μ-loop
-    begun-line-requires
+    fresh-stop-requires
+    fresh-desk-requires
     loop-holds
     read-on-requires
+    answer-line-requires
     sub-turns
     loop-less
     loop-again
     returns
-    returns-2
-    returns-3)
+    returns-2)

@@ -1,22 +1,25 @@
 use Prim.{Unit, tt}
 use borrow.Author.Needs.{needs}
-use Rattle.trials.proofs.lines.run.Statement.{statement}
-use Rattle.trials.proofs.lines.run.Tie as tie
+use Rattle.margins.proofs.input.run.Statement.{statement}
+use Rattle.margins.proofs.input.run.Tie as tie
 
 abbrev Inv-loop : tie.InvT-loop
-Inv-loop line₀ turn₀ turns₀ line turn turns = Unit {0}
+Inv-loop chunk₀ line₀ reader₀ turns₀ chunk line reader turns = Unit {0}
 
 abbrev μ-loop : tie.MeasureT-loop
-μ-loop line₀ turn₀ turns₀ line turn turns = turns
+μ-loop chunk₀ line₀ reader₀ turns₀ chunk line reader turns = turns
 
-fresh-desk-requires : tie.Need-fresh-desk-requires Inv-loop μ-loop
-fresh-desk-requires c κs = search needs
+fresh-stop-requires : tie.Need-fresh-stop-requires Inv-loop μ-loop
+fresh-stop-requires c κs = search needs
 
 loop-holds : tie.Need-loop-holds Inv-loop μ-loop
 loop-holds c = tt
 
-read-some-requires : tie.Need-read-some-requires Inv-loop μ-loop
-read-some-requires c κs = search needs
+read-on-requires : tie.Need-read-on-requires Inv-loop μ-loop
+read-on-requires c κs = search needs
+
+answer-line-requires : tie.Need-answer-line-requires Inv-loop μ-loop
+answer-line-requires c κs = search needs
 
 sub-turns : tie.Need-sub-turns Inv-loop μ-loop
 sub-turns c = search needs
@@ -26,9 +29,6 @@ loop-less c = search needs
 
 loop-again : tie.Need-loop-again Inv-loop μ-loop
 loop-again c = tt
-
-end-line-requires : tie.Need-end-line-requires Inv-loop μ-loop
-end-line-requires c κs = search needs
 
 returns : tie.Need-returns Inv-loop μ-loop
 returns c = search needs
@@ -42,12 +42,12 @@ run-spec =
     (tie.spec
     Inv-loop
     μ-loop
-    fresh-desk-requires
+    fresh-stop-requires
     loop-holds
-    read-some-requires
+    read-on-requires
+    answer-line-requires
     sub-turns
     loop-less
     loop-again
-    end-line-requires
     returns
     returns-2)

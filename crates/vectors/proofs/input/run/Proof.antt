@@ -1,22 +1,22 @@
 use Prim.{Unit, tt}
 use borrow.Author.Needs.{needs}
-use Rattle.margins.proofs.lines.run.Statement.{statement}
-use Rattle.margins.proofs.lines.run.Tie as tie
+use Rattle.vectors.proofs.input.run.Statement.{statement}
+use Rattle.vectors.proofs.input.run.Tie as tie
 
 abbrev Inv-loop : tie.InvT-loop
-Inv-loop chunk₀ line₀ reader₀ turns₀ chunk line reader turns = Unit {0}
+Inv-loop chunk₀ line₀ reader₀ lent₀ turns₀ chunk line reader lent turns = Unit {0}
 
 abbrev μ-loop : tie.MeasureT-loop
-μ-loop chunk₀ line₀ reader₀ turns₀ chunk line reader turns = turns
+μ-loop chunk₀ line₀ reader₀ lent₀ turns₀ chunk line reader lent turns = turns
 
-fresh-reader-requires : tie.Need-fresh-reader-requires Inv-loop μ-loop
-fresh-reader-requires c κs = search needs
+fresh-stop-requires : tie.Need-fresh-stop-requires Inv-loop μ-loop
+fresh-stop-requires c κs = search needs
 
 loop-holds : tie.Need-loop-holds Inv-loop μ-loop
 loop-holds c = tt
 
-next-line-requires : tie.Need-next-line-requires Inv-loop μ-loop
-next-line-requires c κs = search needs
+read-on-requires : tie.Need-read-on-requires Inv-loop μ-loop
+read-on-requires c κs = search needs
 
 answer-line-requires : tie.Need-answer-line-requires Inv-loop μ-loop
 answer-line-requires c κs = search needs
@@ -42,9 +42,9 @@ run-spec =
     (tie.spec
     Inv-loop
     μ-loop
-    fresh-reader-requires
+    fresh-stop-requires
     loop-holds
-    next-line-requires
+    read-on-requires
     answer-line-requires
     sub-turns
     loop-less
