@@ -64,8 +64,15 @@ fn admit(l: Link, i: usize, f: &[u8], s: Secured, out: &mut [u8]) -> Heard
         Unsealed::Plain(n) => {
             let guard = Guard::Under(identifier(s));
             let answer = Opened::Frame(n, s.sender, guard);
-            let mut link = l;
-            link.floor = s.counter + 1;
+            // Field by field: a whole copy, changed in its floor, would stand on the stack too.
+            let key = l.key;
+            let floor = s.counter + 1;
+            let link = Link {
+                present: l.present,
+                partner: l.partner,
+                key,
+                floor,
+            };
             Heard {
                 answer,
                 entry: Place::At(i),

@@ -22,8 +22,8 @@ enum-known-n c = search needs
 identifier-requires : tie.Need-identifier-requires
 identifier-requires c κs = search needs
 
-add-link : tie.Need-add-link
-add-link c = search needs
+add-floor : tie.Need-add-floor
+add-floor c = search needs
 
 enum-told : tie.Need-enum-told
 enum-told c = search needs
@@ -38,11 +38,12 @@ returns : tie.Need-returns
 returns c =
     let x : tie.Start = search in
     let y = x .args in
+    let after-identifier : tie.After-identifier = search in
     let after-n : tie.After-n = search in
     let after-unseal : tie.After-unseal = search in
     let after-key-named : tie.After-key-named = search in (
       (λ b el. admit-plain ours ours-fair _ (y .f .now) (y .s) (y .out .now) (y .i) (x .pre .0) (x .pre .1 .0) _ (after-n .n .given .0 .0)
-          _ _ (y .l) (after-n .n .given .1) (after-unseal .unseal .ensures) (c .before .identifier .ensures) b el ∙ ap
+          _ _ (y .l) (after-n .n .given .1) (after-unseal .unseal .ensures) (after-identifier .identifier .ensures) b el ∙ ap
           (λ (k : Key). admitted b (y .f .now) (y .s) (y .out .now) (y .i) (messageOf ours k (y .f .now) (y .s)))
           (after-key-named .key-named .ensures)),
       moves-this (x .pre .1 .1 .1),
@@ -74,7 +75,7 @@ admit-spec =
     unseal-requires
     enum-known-n
     identifier-requires
-    add-link
+    add-floor
     enum-told
     unmoved-requires
     same-length
