@@ -48,7 +48,7 @@ module _ (z : Settings) (l : Layer) (b : Board) (f o : List ℕ) (n : ℕ) (p : 
   read-made : reading z l (take n p) 0 ≡ secured (announcing (t .header) (t .named) (b .outgoing) (b .own) (t .number))
   unfolding frame
   read-made =
-      ap (λ (g : List ℕ). reading l g 0)
+      ap (λ (g : List ℕ). reading z l g 0)
       (ap (take n) (t .out) ∙ take-at frame (drop (length frame) o) n (sym (t .count)))
       ∙ read-again z (t .key) (t .number) to-seal 0
 
@@ -122,12 +122,12 @@ module _ (z : Settings) (own : ℕ) (wide : own < 2 ^ 64) (someone : noAddress o
   sends-write : (a : Bool) (c : Command) (k r o : List ℕ) → Sends own (step z (writing a c k r o) x .after .board) (readings z (sentIn h))
   unfolding apsRaised
   sends-write a c k r o =
-      writes b a c k r o (λ (w : Framed). Sends own (byFrame x w .after .board) (readings z (sentIn h))) (λ n. w) (λ n p. kept w refl refl refl)
+      writes z b a c k r o (λ (w : Framed). Sends own (byFrame x w .after .board) (readings z (sentIn h))) (λ n. w) (λ n p. kept w refl refl refl)
 
   -- a call that tells nothing of sealing
   silent : (c : Call) → Sends own (step z c x .after .board) (readings z (sentIn h))
       → sentIn (telling z h c (handedOut (step z c x .reply)) ++ h) ≡ sentIn h → After c
-  silent c v q = kept v refl refl (ap readings z (quiet (step z c x .reply) (telling z h c (handedOut (step z c x .reply))) h q))
+  silent c v q = kept v refl refl (ap (readings z) (quiet (step z c x .reply) (telling z h c (handedOut (step z c x .reply))) h q))
 
   sends-step : (c : Call) → Octets (toSeal c) → After c
   sends-step (install i n k) o =

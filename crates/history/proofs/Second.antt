@@ -28,7 +28,7 @@ use Rattle.history.proofs.Slots.{found-key}
 use Rattle.history.proofs.Links.{Tells}
 use Rattle.network.proofs.Ways as networkWays
 use Rattle.aps.proofs.Ways as apsWays
-use Rattle.history.proofs.Stands.{Stands, sender-some, slot-for, stands}
+use Rattle.history.proofs.Stands.{given-none, Stands, sender-some, slot-for, stands}
 use Rattle.cipher.specs.Ccm.{Verdict, valid, invalid}
 use Rattle.frames.specs.declared.Layer.{Layer}
 use Rattle.frames.specs.declared.Layer.the-variants.{Network, Aps}
@@ -132,7 +132,7 @@ module _ (z : Settings) (x : Held) (h : List Event) (w : Stands z x h) (f : List
     unfolding network.admitted genuine
     tell-row k i i< =
         go (messageOf z k f s) (rowFor z (x .lists) i (s .sender))
-        ∙ ap (both (isValid (messageOf z k f s))) (room-told z (w .rows) i i< (s .sender) (sender-some z Network f g s e) ∙ room-names (z .rows) (s .sender) (heardIn h (slot i)))
+        ∙ ap (both (isValid (messageOf z k f s))) (room-told z (w .rows) i i< (s .sender) (sender-some z Network f 0 s e) ∙ room-names (z .rows) (s .sender) (heardIn h (slot i)))
       where
         go : (d : Verdict) (p : Place) → N (network.admitted f s lw d p) ≡ both (isValid d) (there p)
         go invalid p = refl
@@ -147,12 +147,12 @@ module _ (z : Settings) (x : Held) (h : List Event) (w : Stands z x h) (f : List
         two-checks N (eqb (s .counter) top) (ltb (s .counter) (floorOf z (x .lists) i (s .sender))) _ _
         (network.admitted f s lw (messageOf z k f s) (rowFor z (x .lists) i (s .sender))) refl refl
         ∙ ap₂ (λ (t u : Bool). both t (both u (N (network.admitted f s lw (messageOf z k f s) (rowFor z (x .lists) i (s .sender))))))
-        (sym (below-top (s .counter) (counter-low z Network f g s octets e)))
+        (sym (below-top (s .counter) (counter-low z Network f 0 s octets e)))
         (above-floor (s .sender) (s .counter) (floorOf z (x .lists) i (s .sender)) (heardIn h (slot i)) floor-is)
         ∙ ap (λ (t : Bool). both (ltb (s .counter) top) (both (aboveAll (s .sender) (s .counter) (heardIn h (slot i))) t)) (tell-row k i i<)
       where
         floor-is : floorOf z (x .lists) i (s .sender) ≡ bound (counters (s .sender) (heardIn h (slot i)))
-        floor-is = ap (floorAt (x .lists .floors)) (row-there z (w .rows) i i< (s .sender)) ∙ w .rows .floor i (s .sender) i< (sender-some z Network f g s e)
+        floor-is = ap (floorAt (x .lists .floors)) (row-there z (w .rows) i i< (s .sender)) ∙ w .rows .floor i (s .sender) i< (sender-some z Network f 0 s e)
 
     tell-keyed : (p : Place) → slotOf (b .slots) (s .sequence) ≡ p
         → N (network.openedKeyed z (b .slots) f s lw p) ≡ passesUnder z h Network f s (holderAt p) (keyIn h (holderAt p))
@@ -182,7 +182,8 @@ module _ (z : Settings) (x : Held) (h : List Event) (w : Stands z x h) (f : List
       (network.openedRead z (b .slots) f lw (reading z Network f 0)) refl refl
       ∙ ap₂ (λ (t u : Bool). both t (both u (N (network.openedRead z (b .slots) f lw (reading z Network f 0)))))
       room-there (sym (leb-ltb (length f) longest))
-      ∙ ap (λ (t : Bool). both (leb longest (length o)) (both (leb (length f) longest) t)) (tell-read (reading z Network f 0) refl ne)
+      ∙ ap (λ (t : Bool). both (leb longest (length o)) (both (leb (length f) longest) t))
+      (tell-read (reading z Network f 0) refl ne ∙ ap (passesRead z h Network f) (sym (given-none z f g)))
     where
       room-there : not (not (both (leb longest (length o)) (listsFit z (x .lists)))) ≡ leb longest (length o)
       room-there =
@@ -251,12 +252,12 @@ module _ (z : Settings) (x : Held) (h : List Event) (w : Stands z x h) (f : List
   -- ---- either layer
 
   pub tell : (l : Layer) → ((n : ℕ) → reading z l f g ≡ plain n → ⊥) → not (refuses (step z (opening l f g o) x .reply)) ≡ passes z h l f g o
-  tell Network = tell-network
-  tell Aps = tell-aps
+  tell Network ne = tell-network (λ n e. ne n (given-none z f g ∙ e))
+  tell Aps ne = tell-aps ne
 
   pub clear : (l : Layer) (n : ℕ) → reading z l f g ≡ plain n → tellsKey (step z (opening l f g o) x .reply) ≡ false
-  clear Network = clear-network
-  clear Aps = clear-aps
+  clear Network n e = clear-network n (sym (given-none z f g) ∙ e)
+  clear Aps n e = clear-aps n e
 
   pub rightly : (l : Layer) (r : Reading) → reading z l f g ≡ r → Rightly r (step z (opening l f g o) x .reply) (passes z h l f g o)
   rightly l (secured s) e = tell l (λ n q. plain-not n s (sym q ∙ e))

@@ -6,14 +6,13 @@ use mathlib.Core.List.{List, [], _∷_, _++_}
 use Prim.Native.Nat.{ℕ, _+_, _-_, _*_, _<_, _≤_}
 use native.Mathlib.Omega.{arith}
 use lib.Dec.{eqb, ltb}
-use lib.ListN.{set, take}
+use lib.ListN.{length, set, take}
 use borrow.Author.Tests.{eqb-true, eqb-false, ltb-false}
 use Rattle.octets.specs.Keys.{Key, theKey}
 use Rattle.settings.specs.Settings.{Settings}
 use Rattle.octets.proofs.Choices.{choose}
 use Rattle.octets.specs.Addresses.{noAddress}
 use Rattle.octets.specs.Choice.{if_then_else_, both}
-use Rattle.octets.specs.Lists.{eqList}
 use Rattle.history.specs.Calls.{Call, install, switch, addLink, removeLink, forget, opening, sealing, looking, writing}
 use Rattle.history.specs.Calls.{handedOut, exchanges}
 use Rattle.history.specs.Events.{Event, Installation, HeardFrame, slot, link, keyed, key, none, keyIn, sameKey, slotFor, without, heardIn}
@@ -30,7 +29,7 @@ use Rattle.answers.specs.Numbers.{done}
 use Rattle.frames.specs.declared.Layer.{Layer}
 use Rattle.frames.specs.declared.Layer.the-variants.{Network, Aps}
 use Rattle.frames.specs.declared.Secured.{Secured}
-use Rattle.frames.specs.Reading.{secured, reading}
+use Rattle.frames.specs.Reading.{Header, unfit, header, readHeader, secured, readBehind, reading}
 use Rattle.frames.proofs.Found.{secured-frame}
 use Rattle.board.specs.declared.Board.{Board}
 use Rattle.board.specs.declared.Link.{Link}
@@ -48,6 +47,8 @@ use Rattle.commands.specs.Writing.{apsRaised}
 use Rattle.board.specs.Requests as requests
 use Rattle.network.specs.Opening.{Lent, Opening}
 use Rattle.network.proofs.Ways as network
+use Rattle.seals.specs.Sealing.{plainFrame}
+use Rattle.octets.specs.Lists.{onto, eqList}
 use Rattle.aps.proofs.Ways as aps
 
 pub record Stands (z : Settings) (x : Held) (h : List Event) : Type 0 where
@@ -69,6 +70,16 @@ stands-fresh z own = choose P (noAddress own) _ _ (λ _. fresh-so 0) (λ _. fres
 pick-over : {A B : Type 0} (f : A → B) (t : Bool) (x y : A) → (if t then f x else f y) ≡ f (if t then x else y)
 pick-over f true x y = refl
 pick-over f false x y = refl
+
+-- the network layer looks at no sender that the caller gives
+pub given-none : (z : Settings) (f : List ℕ) (g : ℕ) → reading z Network f g ≡ reading z Network f 0
+unfolding reading
+given-none z f g = go (readHeader Network f)
+  where
+    go : (x : Header) → readBehind z Network f g x ≡ readBehind z Network f 0 x
+    go (unfit n) = refl
+    go (header n true) = refl
+    go (header n false) = refl
 
 -- nobody's address is no sender's
 pub sender-some : (z : Settings) (l : Layer) (f : List ℕ) (g : ℕ) (s : Secured) → reading z l f g ≡ secured s → s .sender ≡ 0 → ⊥
@@ -228,15 +239,15 @@ module _ (z : Settings) (x : Held) (h : List Event) (w : Stands z x h) where
   pub stands-network : (f : List ℕ) (g : ℕ) (o : List ℕ)
       → Stands z (step z (opening Network f g o) x .after) (eventsOf z h (opening Network f g o) (step z (opening Network f g o) x .reply) ++ h)
   unfolding floorOf
-  stands-network f g o = network.open-ways z b f (record { lists = x .lists; out = o }) P (λ n. w) (λ n p e. rw e w) passed
+  stands-network f g o = network.open-ways z b f (record { lists = x .lists; out = o }) P (λ n. w) (λ n p e. rw (given-none z f g ∙ e) w) passed
     where
       P : Opening → Type 0
       P r = Stands z (byNetwork x r .after) (eventsOf z h (opening Network f g o) (byNetwork x r .reply) ++ h)
 
       passed : (s : Secured) (i r n : ℕ) (p : List ℕ) → network.Passed z b f (record { lists = x .lists; out = o }) s i r
-          → Stands z (held b (lists (set (x .lists .addrs) r (s .sender)) (set (x .lists .floors) r (s .counter + 1)))) (hearing h Network f (take n p) (reading z Network f 0) ++ h)
+          → Stands z (held b (lists (set (x .lists .addrs) r (s .sender)) (set (x .lists .floors) r (s .counter + 1)))) (hearing h Network f (take n p) (reading z Network f g) ++ h)
       passed s i r n p t =
-          rw (t .read, slot-for (s .sequence), t .found)
+          rw (given-none z f g ∙ t .read, slot-for (s .sequence), t .found)
           (record {
             slots = w .slots;
             rows = rows-ext (hear-rows z (w .rows) i i< (s .sender) az r (s .counter) (t .row) least) (λ j c. more (eqb i j) j c)
@@ -256,7 +267,7 @@ module _ (z : Settings) (x : Held) (h : List Event) (w : Stands z x h) where
           i< = slot-place (b .slots) (s .sequence) i (t .found)
 
           az : s .sender ≡ 0 → ⊥
-          az = sender-some z Network f g s (t .read)
+          az = sender-some z Network f 0 s (t .read)
 
           least : bound (counters (s .sender) (heardIn h (slot i))) ≤ s .counter
           least = omega (arith, t .least, w .rows .floor i (s .sender) i< az, ap (floorAt (x .lists .floors)) (row-there z (w .rows) i i< (s .sender)))
@@ -264,7 +275,8 @@ module _ (z : Settings) (x : Held) (h : List Event) (w : Stands z x h) where
   pub stands-aps : (f : List ℕ) (g : ℕ) (o : List ℕ)
       → Stands z (step z (opening Aps f g o) x .after) (eventsOf z h (opening Aps f g o) (step z (opening Aps f g o) x .reply) ++ h)
   unfolding pairs
-  stands-aps f g o = aps.open-ways z b f g o P (λ n. w) (λ n e. rw e w) (λ s i t. passed s i _ _ t)
+  stands-aps f g o = aps.open-ways z b f g o P (λ n. w) (λ n e. rw e w)
+      (λ s i t. passed s i (s .header + length (t .message)) (onto (plainFrame Aps f s (t .message)) o) t)
     where
       P : Framed → Type 0
       P r = Stands z (byFrame x r .after) (eventsOf z h (opening Aps f g o) (byFrame x r .reply) ++ h)
@@ -336,7 +348,7 @@ module _ (z : Settings) (x : Held) (h : List Event) (w : Stands z x h) where
   pub stands-write : (a : Bool) (c : Command) (k r o : List ℕ) → Stands z (step z (writing a c k r o) x .after) (eventsOf z h (writing a c k r o) (step z (writing a c k r o) x .reply) ++ h)
   unfolding apsRaised
   stands-write a c k r o =
-      writes b a c k r o (λ (w : Framed). Stands z (byFrame x w .after) (eventsOf z h (writing a c k r o) (byFrame x w .reply) ++ h)) (λ n. w)
+      writes z b a c k r o (λ (w : Framed). Stands z (byFrame x w .after) (eventsOf z h (writing a c k r o) (byFrame x w .reply) ++ h)) (λ n. w)
       (λ n p. record { slots = w .slots; rows = w .rows; links = w .links })
 
 pub stands-step : (z : Settings) (c : Call) (x : Held) (h : List Event) → Stands z x h → Stands z (step z c x .after) (eventsOf z h c (step z c x .reply) ++ h)

@@ -24,7 +24,7 @@ use Rattle.seals.proofs.Again.{Suited}
 use Rattle.network.specs.Sealing.{sealNetwork}
 use Rattle.aps.specs.Keys.{keyFor}
 use Rattle.aps.specs.Sealing.{sealAps}
-use Rattle.aps.proofs.RoundTrip.{suited-named}
+use Rattle.aps.proofs.Sends.{suited-named}
 use Rattle.commands.specs.declared.Command.{Command}
 use Rattle.commands.specs.Kinds.{kindOf}
 use Rattle.commands.specs.Table.{ruleOf}
@@ -79,10 +79,10 @@ module _ (z : Settings) (b : Board) (f o : List ℕ) (P : Framed → Type 0) (do
 
 -- ---- the writer: a refusal, or a frame and the APS counter raised
 
-pub writes : (b : Board) (a : Bool) (c : Command) (k r o : List ℕ) (P : Framed → Type 0) → ((n : ℕ) → P (framed (turnedDown n) b o))
-    → ((n : ℕ) (p : List ℕ) → P (framed (written n) (apsRaised b) p)) → P (writeCommand b a c k r o)
+pub writes : (z : Settings) (b : Board) (a : Bool) (c : Command) (k r o : List ℕ) (P : Framed → Type 0) → ((n : ℕ) → P (framed (turnedDown n) b o))
+    → ((n : ℕ) (p : List ℕ) → P (framed (written n) (apsRaised b) p)) → P (writeCommand z b a c k r o)
 unfolding writeCommand
-writes b a c k r o P down made =
+writes z b a c k r o P down made =
     choose P (ltb (length o) longestAps) _ _ (λ _. down 1) λ _.
-    choose P (not (whole (ruleOf (kindOf c)) k r)) _ _ (λ _. down 11) λ _.
+    choose P (not (whole z (ruleOf (kindOf c)) k r)) _ _ (λ _. down 11) λ _.
     choose P (ltb longestAps (length (frameOf b a c k r))) _ _ (λ _. down 2) (λ _. made _ _)

@@ -65,7 +65,7 @@ step z (sealing Network f a k o) x = byFrame x (networkSeals.sealNetwork z (x .b
 step z (sealing Aps f a k o) x = byFrame x (apsSeals.sealAps z (x .board) f a k o)
 step z (looking Network f g) x = to (looked (network.lookNetwork z (x .board) f)) x
 step z (looking Aps f g) x = to (looked (aps.lookAps z (x .board) f g)) x
-step z (writing a c k r o) x = byFrame x (commands.writeCommand (x .board) a c k r o)
+step z (writing a c k r o) x = byFrame x (commands.writeCommand z (x .board) a c k r o)
 
 -- a fresh state, and what calls leave of it
 abbrev pub start : Settings → ℕ → Held
