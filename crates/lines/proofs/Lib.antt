@@ -1,3 +1,4 @@
 pub mod Fed
 pub mod Written
 pub mod AllLines
+pub mod Formed

@@ -2,3 +2,5 @@ pub mod Lines
 pub mod Reading
 pub mod Passing
 pub mod Answer
+pub mod Kinds
+pub mod Forms

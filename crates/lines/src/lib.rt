@@ -1,8 +1,10 @@
-// Lines in and lines out: the line that is being read, and the answer that is being written.
+// Lines in and lines out: the line that is being read, its fields by their kinds, and the answer that
+// is being written.
 //
 // No function here asks anything of its caller, and each says by an equation what it answers. Reading
 // the input and writing the output are the program's: no contract says what they do.
 mod answer;
+mod forms;
 mod reading;
 
 pub use answer::Answer;
@@ -13,6 +15,13 @@ pub use answer::first;
 pub use answer::hex;
 pub use answer::whole_line;
 pub use answer::word;
+pub use forms::Kind;
+pub use forms::Value;
+pub use forms::has_form;
+pub use forms::kind_of;
+pub use forms::numbers_of;
+pub use forms::octets_by;
+pub use forms::value_of;
 pub use reading::Line;
 pub use reading::Stop;
 pub use reading::fresh_line;
