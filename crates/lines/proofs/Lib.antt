@@ -2,3 +2,4 @@ pub mod Fed
 pub mod Written
 pub mod AllLines
 pub mod Formed
+pub mod Turned

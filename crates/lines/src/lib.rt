@@ -5,6 +5,7 @@
 // the input and writing the output are the program's: no contract says what they do.
 mod answer;
 mod forms;
+mod reader;
 mod reading;
 
 pub use answer::Answer;
@@ -22,6 +23,12 @@ pub use forms::kind_of;
 pub use forms::numbers_of;
 pub use forms::octets_by;
 pub use forms::value_of;
+pub use reader::Reader;
+pub use reader::fresh_reader;
+pub use reader::is_due;
+pub use reader::is_spent;
+pub use reader::refilled;
+pub use reader::turn;
 pub use reading::Line;
 pub use reading::Stop;
 pub use reading::fresh_line;

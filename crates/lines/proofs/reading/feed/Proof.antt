@@ -1,3 +1,7 @@
+use mathlib.Core.Path.{refl}
+use Prim.Native.Nat.{_+_}
+use native.Mathlib.Omega.{arith}
+use lib.Seq.{drop-set-lt}
 use Rattle.lines.proofs.Fed.{fed-room, fed-long}
 use borrow.Author.Needs.{needs}
 use Rattle.lines.proofs.reading.feed.Statement.{statement}
@@ -14,11 +18,17 @@ same-length c = search needs
 
 returns : tie.Need-returns
 returns c =
-    let x = c .before .args in fed-room (x .buf .now) (x .line .at) (x .line .long) (x .c) (c .if1 .taken)
+    let x = c .before .args in
+    let b = x .buf .now in
+    let i = x .line .at in (
+      fed-room b i (x .line .long) (x .c) (c .if1 .taken),
+      (omega arith, drop-set-lt (i + 1) b i (x .c) (omega arith)),
+    )
 
 returns-2 : tie.Need-returns-2
 returns-2 c =
-    let x = c .before .args in fed-long (x .buf .now) (x .line .at) (x .line .long) (x .c) (c .if1 .left)
+    let x = c .before .args in
+    (fed-long (x .buf .now) (x .line .at) (x .line .long) (x .c) (c .if1 .left), (omega arith, refl))
 
 pub feed-spec : {M : Type 1} → statement M
 feed-spec = tie.close (tie.spec slice-write-buf add-t8 same-length returns returns-2)
