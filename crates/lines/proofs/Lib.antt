@@ -3,3 +3,4 @@ pub mod Written
 pub mod AllLines
 pub mod Formed
 pub mod Turned
+pub mod Refusing

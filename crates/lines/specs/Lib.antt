@@ -4,3 +4,4 @@ pub mod Passing
 pub mod Answer
 pub mod Kinds
 pub mod Forms
+pub mod Refusals

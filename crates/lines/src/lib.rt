@@ -7,6 +7,7 @@ mod answer;
 mod forms;
 mod reader;
 mod reading;
+mod refusals;
 
 pub use answer::Answer;
 pub use answer::Whole;
@@ -34,3 +35,4 @@ pub use reading::Stop;
 pub use reading::fresh_line;
 pub use reading::is_silent;
 pub use reading::next_line;
+pub use refusals::refused;
