@@ -1,3 +1,4 @@
+-- As `word`, with the address in hex.
 use mathlib.Core.List.{List}
 use Prim.Native.Nat.{ℕ}
 use native.Mathlib.Omega.{arith}

@@ -1,3 +1,4 @@
+-- As `word`, with the number in decimal.
 use mathlib.Core.List.{List}
 use Prim.Native.Nat.{ℕ}
 use native.Mathlib.Omega.{arith}

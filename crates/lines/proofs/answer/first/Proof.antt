@@ -1,3 +1,4 @@
+-- A word that is put at the front of an empty answer is all of it, where it has room.
 use Prim.Native.Nat.{ℕ}
 use lib.ListN.{length, replicate, length-replicate}
 use mathlib.Core.Path.{_≡_, refl, sym, ap, ap₂, _∙_}

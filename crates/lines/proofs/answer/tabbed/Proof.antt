@@ -1,3 +1,4 @@
+-- A tab is put behind the answer, where it has room.
 use mathlib.Core.List.{[], _∷_}
 use native.Mathlib.Omega.{arith}
 use mathlib.Core.Path.{_≡_, refl, sym, ap, ap₂, _∙_}

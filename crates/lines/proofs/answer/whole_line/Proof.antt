@@ -1,3 +1,4 @@
+-- Number, tab, answer and line feed are put one behind the other; 20, 1, 8192 and 1 octets are what the array has.
 use mathlib.Core.List.{List, [], _∷_}
 use Prim.Native.Nat.{ℕ}
 use native.Mathlib.Omega.{arith}

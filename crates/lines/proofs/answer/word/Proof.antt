@@ -1,3 +1,4 @@
+-- The word is put behind a tab, and each of the two is left out where it has no room.
 use mathlib.Core.List.{List}
 use Prim.Native.Nat.{ℕ}
 use native.Mathlib.Omega.{arith}

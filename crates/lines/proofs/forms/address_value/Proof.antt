@@ -1,3 +1,4 @@
+-- The two cases of an address are those of a value.
 use mathlib.Core.Path.{sym, _∙_}
 use Rattle.lines.specs.Kinds.{valueOf}
 use borrow.Author.Needs.{needs}

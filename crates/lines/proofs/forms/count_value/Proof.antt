@@ -1,3 +1,4 @@
+-- The two tests are those of `within`.
 use Rattle.octets.proofs.Choices.{tests}
 use Rattle.lines.specs.Kinds.{within}
 use borrow.Author.Needs.{needs}

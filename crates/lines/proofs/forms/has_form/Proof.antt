@@ -1,3 +1,4 @@
+-- The first i fields are good; one that is not is enough to refuse, and behind the last all are.
 use mathlib.Core.Path.{_≡_, refl, sym, ap, _∙_}
 use mathlib.Core.Bool.{true}
 use Prim.Native.Nat.{_+_, _≤_, _-_}

@@ -1,3 +1,4 @@
+-- The tests are those of `isHex`, and two digits make an octet.
 use mathlib.Core.Path.{sym, _∙_}
 use borrow.Author.Tests.{not-true, not-false}
 use Rattle.octets.proofs.Choices.{tests}

@@ -1,3 +1,4 @@
+-- The letter is among all of them where it is among those from i on.
 use mathlib.Core.Path.{_≡_, sym, _∙_}
 use Prim.Native.Nat.{_+_, _≤_, _-_}
 use native.Mathlib.Omega.{arith}

@@ -1,3 +1,4 @@
+-- The first i numbers are those of the fields, and the rest is still to come.
 use mathlib.Core.Path.{_≡_, refl, sym, _∙_, ap}
 use Prim.Native.Nat.{_+_, _≤_, _-_}
 use native.Mathlib.Omega.{arith}

@@ -1,3 +1,4 @@
+-- The field is the one at the letter's place, and its octets are read by `text`.
 use mathlib.Core.Path.{_≡_, _∙_, ap}
 use mathlib.Core.List.{List}
 use Prim.Native.Nat.{ℕ}

@@ -1,3 +1,4 @@
+-- No letter before place i is one of those, so that the search from i on finds the same place.
 use mathlib.Core.Path.{_≡_, sym, _∙_}
 use Prim.Native.Nat.{_+_, _-_, _≤_}
 use native.Mathlib.Omega.{arith}

@@ -1,3 +1,4 @@
+-- `none` is tested first, as the definition does.
 use mathlib.Core.Path.{sym, _∙_}
 use Rattle.lines.specs.Kinds.{valueOf}
 use borrow.Author.Needs.{needs}

@@ -1,3 +1,4 @@
+-- The letter gives the kind, and the kind the value of the field.
 use mathlib.Core.Path.{_≡_, sym, _∙_, ap, ap₂}
 use Rattle.octets.specs.Parts.{Part}
 use Rattle.lines.specs.Forms.{valueAt}

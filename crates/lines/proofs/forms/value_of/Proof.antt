@@ -1,3 +1,4 @@
+-- Each kind is read by its own function.
 use Rattle.lines.specs.Kinds.{valueOf}
 use borrow.Author.Needs.{needs}
 use Rattle.lines.proofs.forms.value_of.Statement.{statement}

@@ -1,3 +1,4 @@
+-- Room for one more octet is tested as `fed` tests it, and only the place behind the line is written.
 use mathlib.Core.Path.{refl}
 use Prim.Native.Nat.{_+_}
 use native.Mathlib.Omega.{arith}

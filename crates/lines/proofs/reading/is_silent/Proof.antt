@@ -1,3 +1,4 @@
+-- The two tests are those of `silent`.
 use borrow.Author.Tests.{eq-eqb, ne-eqb}
 use Rattle.octets.proofs.Choices.{tests}
 use Rattle.lines.specs.Lines.{silent}

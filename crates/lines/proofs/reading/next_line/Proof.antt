@@ -1,3 +1,4 @@
+-- At each octet what is read so far, read on through the rest, is the whole reading; behind the line the buffer is as it was.
 use mathlib.Core.Path.{_≡_, refl, sym, ap, ap₂, _∙_}
 use Prim.Native.Nat.{ℕ, _+_, _-_}
 use native.Mathlib.Omega.{arith}

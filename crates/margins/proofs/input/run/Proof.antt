@@ -1,3 +1,4 @@
+-- Each turn leaves one less, so that the loop ends.
 use Prim.{Unit, tt}
 use borrow.Author.Needs.{needs}
 use Rattle.margins.proofs.input.run.Statement.{statement}
