@@ -1,5 +1,6 @@
--- Whatever chunks an input comes in, a program that calls `next_line` as `Passing` says is handed exactly the input's lines,
--- in order, none lost and none twice, each as far as there is room for it and marked where it is longer.
+-- Whatever chunks an input comes in, a program whose turns are those of `Passing` is handed exactly the input's lines, in order
+-- and by their numbers, none lost and none twice, each as far as there is room for it and marked where it is longer; the last
+-- one too, which no line feed ends.
 -- Assumes nothing.
 use mathlib.Core.Path.{_≡_, refl, sym, ap, ap₂, _∙_}
 use mathlib.Core.Bool.{Bool, true, false, not, false≢true}
@@ -14,38 +15,30 @@ use borrow.Author.Tests.{lt-ltb, le-ltb, ltb-true, ltb-false, eqb-true}
 use Rattle.octets.specs.Choice.{if_then_else_, both}
 use Rattle.lines.specs.Lines.{Lines, lines, linesFrom, linesOf, glued, unfed, allUnfed}
 use Rattle.lines.specs.Reading.{Held, holds, kept, unread, fed, Reached, reached, readOn}
-use Rattle.lines.specs.Passing.{Passed, passed, calls, chunks, joined}
+use Rattle.lines.specs.Passing.{Standing, stands, atStart, numberAfter, begun, empty, spent, turned, filled, due, Numbered, numbered, handing, read, later, turns, given, all, countedFrom}
 
--- octet by octet: what a line feed does, and any other octet
-unfoldable pub step : ℕ → Passed → ℕ → Bool → Passed
-step n s c true = passed (s .ended ++ (s .now ∷ [])) unread
-step n s c false = passed (s .ended) (fed n (s .now) c)
+-- octet by octet: the lines of h and then l, the last one too
+unfoldable reads : ℕ → Held → List ℕ → List Held
+reads n h [] = h ∷ []
+reads n h (c ∷ l) = if eqb c 10 then h ∷ reads n unread l else reads n (fed n h c) l
 
-unfoldable pub taken : ℕ → Passed → List ℕ → Passed
-taken n s [] = s
-taken n s (c ∷ l) = taken n (step n s c (eqb c 10)) l
-
-taken-append : (n : ℕ) (s : Passed) (l m : List ℕ) → taken n s (l ++ m) ≡ taken n (taken n s l) m
-unfolding taken
-taken-append n s [] m = refl
-taken-append n s (c ∷ l) m = taken-append n (step n s c (eqb c 10)) l m
-
--- what a stop leads to
-unfoldable further : ℕ → List Held → Reached → Passed
-further n e r = if r .ended then taken n (passed (e ++ (r .line ∷ [])) unread) (r .left) else passed e (r .line)
+-- what a stop leads to, where g is behind the chunk
+unfoldable onward : ℕ → List ℕ → Reached → List Held
+onward n g r = if r .ended then r .line ∷ reads n unread (r .left ++ g) else reads n (r .line) g
 
 -- reading to a line's end is taking its octets
-by-line : (n : ℕ) (e : List Held) (h : Held) (l : List ℕ) → taken n (passed e h) l ≡ further n e (readOn n h l)
-unfolding taken step further readOn
-by-line n e h [] = refl
-by-line n e h (c ∷ l) = go (by-line n e (fed n h c) l) (eqb c 10)
+reads-on : (n : ℕ) (h : Held) (l g : List ℕ) → reads n h (l ++ g) ≡ onward n g (readOn n h l)
+unfolding reads onward readOn
+reads-on n h [] g = refl
+reads-on n h (c ∷ l) g = go (reads-on n (fed n h c) l g) (eqb c 10)
   where
-    go : taken n (passed e (fed n h c)) l ≡ further n e (readOn n (fed n h c) l) → (t : Bool)
-        → taken n (step n (passed e h) c t) l ≡ further n e (if t then reached h true l else readOn n (fed n h c) l)
+    go : reads n (fed n h c) (l ++ g) ≡ onward n g (readOn n (fed n h c) l) → (t : Bool)
+        → (if t then h ∷ reads n unread (l ++ g) else reads n (fed n h c) (l ++ g))
+        ≡ onward n g (if t then reached h true l else readOn n (fed n h c) l)
     go ih true = refl
     go ih false = ih
 
--- a line that ended leaves less of the chunk
+-- a line that ended leaves less of the chunk, one that did not leaves nothing of it
 left-less : (n : ℕ) (h : Held) (l : List ℕ) → readOn n h l .ended ≡ true → length (readOn n h l .left) < length l
 unfolding readOn
 left-less n h [] e = absurd (false≢true e)
@@ -57,32 +50,58 @@ left-less n h (c ∷ l) e = go (left-less n (fed n h c) l) (eqb c 10) e
     go ih true q = omega arith
     go ih false q = omega (arith, ih q)
 
--- so many calls of `next_line` hand on what its octets hand on
-pub by-lines : (k n : ℕ) (s : Passed) (l : List ℕ) → length l < k → calls k n s l ≡ taken n s l
-unfolding calls further
-by-lines zero n s l h = absurd (not-suc-le-zero h)
-by-lines (suc k) n s l h =
-    let r = readOn n (s .now) l in
-    let on = passed (s .ended ++ (r .line ∷ [])) unread in
-    go r (r .ended) (λ e. by-lines k n on (r .left) (omega (arith, left-less n (s .now) l e)))
-    ∙ sym (by-line n (s .ended) (s .now) l)
+left-none : (n : ℕ) (h : Held) (l : List ℕ) → readOn n h l .ended ≡ false → readOn n h l .left ≡ []
+unfolding readOn
+left-none n h [] e = refl
+left-none n h (c ∷ l) e = go (left-none n (fed n h c) l) (eqb c 10) e
   where
-    on : Reached → Passed
-    on r = passed (s .ended ++ (r .line ∷ [])) unread
+    go : (readOn n (fed n h c) l .ended ≡ false → readOn n (fed n h c) l .left ≡ []) → (t : Bool)
+        → (if t then reached h true l else readOn n (fed n h c) l) .ended ≡ false
+        → (if t then reached h true l else readOn n (fed n h c) l) .left ≡ []
+    go ih true q = absurd (false≢true (sym q))
+    go ih false q = ih q
 
-    go : (r : Reached) (t : Bool) → (t ≡ true → calls k n (on r) (r .left) ≡ taken n (on r) (r .left))
-        → (if t then calls k n (on r) (r .left) else passed (s .ended) (r .line))
-        ≡ (if t then taken n (on r) (r .left) else passed (s .ended) (r .line))
-    go r true f = f refl
-    go r false f = refl
+-- where the input has ended no line is handed on
+closed : (k n : ℕ) (r : Reached) (m : ℕ) (ls : List (List ℕ)) → turns k n (stands r m false) ls ≡ []
+unfolding turns
+closed zero n r m ls = refl
+closed (suc k) n r m ls = refl
 
-by-chunks : (n : ℕ) (s : Passed) (ls : List (List ℕ)) → chunks n s ls ≡ taken n s (joined ls)
-unfolding chunks joined taken
-by-chunks n s [] = refl
-by-chunks n s (l ∷ ls) =
-    ap (λ (x : Passed). chunks n x ls) (by-lines (suc (length l)) n s l (omega arith))
-    ∙ by-chunks n (taken n s l) ls
-    ∙ sym (taken-append n s l (joined ls))
+-- a turn begins the next line by itself
+begins : (k n : ℕ) (h : Held) (l : List ℕ) (m : ℕ) (ls : List (List ℕ))
+    → turns k n (stands (reached h true l) m true) ls ≡ turns k n (stands (reached unread false l) (numberAfter m) true) ls
+unfolding turns begun spent turned filled
+begins zero n h l m ls = refl
+begins (suc k) n h l m ls = refl
+
+-- the turns from a line that has not ended on
+by-turns : (k n : ℕ) (h : Held) (l : List ℕ) (m : ℕ) (ls : List (List ℕ)) → length l + length (given ls) + length ls < k
+    → turns k n (stands (reached h false l) m true) ls ≡ countedFrom m (reads n h (l ++ given ls))
+unfolding turns begun empty spent turned filled handing due read later given reads onward countedFrom
+by-turns zero n h l m ls q = absurd (not-suc-le-zero q)
+by-turns (suc k) n h [] m [] q = ap (λ (e : List Numbered). numbered m h ∷ e) (closed k n (reached h false []) m [])
+by-turns (suc k) n h [] m ([] ∷ ls) q = ap (λ (e : List Numbered). numbered m h ∷ e) (closed k n (reached h false []) m ls)
+by-turns (suc k) n h [] m ((c ∷ l) ∷ ls) q =
+    by-turns k n h (c ∷ l) m ls (omega (arith, length-append (c ∷ l) (given ls)))
+by-turns (suc k) n h (c ∷ l) m ls q =
+    let r = readOn n h (c ∷ l) in
+    go (r .line) (r .ended) (r .left)
+    (λ e. by-turns k n unread (r .left) (numberAfter m) ls (omega (arith, left-less n h (c ∷ l) e)))
+    (left-none n h (c ∷ l))
+    (by-turns k n (r .line) [] m ls (omega arith))
+    ∙ ap (countedFrom m) (sym (reads-on n h (c ∷ l) (given ls)))
+  where
+    next : List ℕ → Type 0
+    next left =
+        turns k n (stands (reached unread false left) (numberAfter m) true) ls
+        ≡ countedFrom (numberAfter m) (reads n unread (left ++ given ls))
+
+    go : (line : Held) (t : Bool) (left : List ℕ) → (t ≡ true → next left) → (t ≡ false → left ≡ [])
+        → turns k n (stands (reached line false []) m true) ls ≡ countedFrom m (reads n line (given ls))
+        → (let s = stands (reached line t left) m true in handing s (turns k n s ls))
+        ≡ countedFrom m (onward n (given ls) (reached line t left))
+    go line true left f g on = ap (λ (e : List Numbered). numbered m line ∷ e) (begins k n line left m ls ∙ f refl)
+    go line false left f g on = ap (λ (x : List ℕ). turns k n (stands (reached line false x) m true) ls) (g refl) ∙ on
 
 none-kept : (n : ℕ) → unread ≡ kept n []
 unfolding kept
@@ -108,36 +127,31 @@ more-kept n p c = go (ltb (length p) n) refl
         let b : take n (p ++ (c ∷ [])) ≡ take n p = take-append-le n p (c ∷ []) h in
         rw (a, b, le-ltb n n (omega arith), lt-ltb n (length (p ++ (c ∷ []))) (omega (arith, long)))
 
-by-octets : (n : ℕ) (e : List Held) (p l : List ℕ)
-    → taken n (passed e (kept n p)) l ≡ passed (e ++ map (kept n) (linesFrom p l .ended)) (kept n (linesFrom p l .rest))
-unfolding taken step linesFrom
-by-octets n e p [] = ap (λ (x : List Held). passed x (kept n p)) (sym (append-nil e))
-by-octets n e p (c ∷ l) = go (by-octets n (e ++ (kept n p ∷ [])) [] l) (by-octets n e (p ++ (c ∷ [])) l) (eqb c 10)
+by-octets : (n : ℕ) (p l : List ℕ) → reads n (kept n p) l ≡ map (kept n) (all (linesFrom p l))
+unfolding reads linesFrom
+by-octets n p [] = refl
+by-octets n p (c ∷ l) = go (by-octets n [] l) (by-octets n (p ++ (c ∷ [])) l) (eqb c 10)
   where
     from : Bool → Lines
     from t = if t then lines (p ∷ linesFrom [] l .ended) (linesFrom [] l .rest) else linesFrom (p ++ (c ∷ [])) l
 
-    passes : List Held → List ℕ → Lines → Type 0
-    passes a q m = taken n (passed a (kept n q)) l ≡ passed (a ++ map (kept n) (m .ended)) (kept n (m .rest))
+    passes : List ℕ → Type 0
+    passes q = reads n (kept n q) l ≡ map (kept n) (all (linesFrom q l))
 
-    go : passes (e ++ (kept n p ∷ [])) [] (linesFrom [] l) → passes e (p ++ (c ∷ [])) (linesFrom (p ++ (c ∷ [])) l) → (t : Bool)
-        → taken n (step n (passed e (kept n p)) c t) l
-        ≡ passed (e ++ map (kept n) (from t .ended)) (kept n (from t .rest))
+    go : passes [] → passes (p ++ (c ∷ [])) → (t : Bool)
+        → (if t then kept n p ∷ reads n unread l else reads n (fed n (kept n p) c) l) ≡ map (kept n) (all (from t))
     go ended on true =
-        ap (λ (x : Held). taken n (passed (e ++ (kept n p ∷ [])) x) l) (none-kept n)
-        ∙ ended
-        ∙ ap (λ (x : List Held). passed x (kept n (linesFrom [] l .rest)))
-        (append-snoc e (kept n p) (map (kept n) (linesFrom [] l .ended)))
-    go ended on false = ap (λ (x : Held). taken n (passed e x) l) (more-kept n p c) ∙ on
+        ap (λ (e : List Held). kept n p ∷ e) (ap (λ (x : Held). reads n x l) (none-kept n) ∙ ended)
+    go ended on false = ap (λ (x : Held). reads n x l) (more-kept n p c) ∙ on
 
--- the lines handed on are the input's, and what is being read at the end is what stands behind its last line feed
-pub all-lines : (n : ℕ) (ls : List (List ℕ))
-    → chunks n (passed [] unread) ls ≡ passed (map (kept n) (linesOf (joined ls) .ended)) (kept n (linesOf (joined ls) .rest))
+-- a turn for each octet and each chunk of the input, and one more, hand on its lines
+pub all-lines : (k n : ℕ) (ls : List (List ℕ)) → length (given ls) + length ls < k
+    → turns k n atStart ls ≡ countedFrom 1 (map (kept n) (all (linesOf (given ls))))
 unfolding linesOf
-all-lines n ls =
-    by-chunks n (passed [] unread) ls
-    ∙ ap (λ (x : Held). taken n (passed [] x) (joined ls)) (none-kept n)
-    ∙ by-octets n [] [] (joined ls)
+all-lines k n ls q =
+    by-turns k n unread [] 1 ls (omega (arith, q))
+    ∙ ap (λ (x : Held). countedFrom 1 (reads n x (given ls))) (none-kept n)
+    ∙ ap (countedFrom 1) (by-octets n [] (given ls))
 
 -- lines that have been found, put together, are what they were found in
 lines-from : (p l : List ℕ) → glued (linesFrom p l .ended) (linesFrom p l .rest) ≡ p ++ l

@@ -1,3 +1,6 @@
 pub mod Fed
 pub mod Written
 pub mod AllLines
+pub mod Formed
+pub mod Turned
+pub mod Refusing

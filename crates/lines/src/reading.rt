@@ -1,8 +1,9 @@
 // A line that is being read, whichever chunks the input comes in.
 ghost use mathlib.Core.Path.{_≡_};
 ghost use mathlib.Core.List.{List};
-ghost use Prim.Native.Nat.{ℕ};
-ghost use lib.ListN.{length, drop};
+ghost use Prim.Native.Nat.{ℕ, _≤_};
+ghost use lib.ListN.{length, take, drop};
+ghost use Rattle.octets.specs.Lists.{onto};
 ghost use Rattle.lines.specs.Lines.{silent};
 ghost use Rattle.lines.specs.Reading.{held, unread, fed, stopped, readOn};
 
@@ -29,9 +30,11 @@ pub fn fresh_line() -> Line
 }
 
 // Reads on from a place in the chunk, to the end of the line or of the chunk. The octets of a line
-// that is too long are not kept, but for those that there is room for.
+// that is too long are not kept, but for those that there is room for. Behind the line's octets the
+// buffer stays as it was.
 pub fn next_line(line: Line, chunk: &[u8], from: usize, buf: &mut [u8]) -> Stop
     ensures { λ r. ⌜ stopped r (now (chunk .entry)) (now (buf .exit)) ≡ readOn (length (now (buf .entry))) (held line (now (buf .entry))) (drop from (now (chunk .entry))) ⌝ }
+    ensures leaves { λ r. ⌜ now (buf .exit) ≡ onto (take (r .line .at) (now (buf .exit))) (now (buf .entry)) ⌝ }
 {
     let mut now = line;
     let mut i = from;
@@ -58,6 +61,7 @@ pub fn next_line(line: Line, chunk: &[u8], from: usize, buf: &mut [u8]) -> Stop
 // One octet more of a line.
 fn feed(line: Line, buf: &mut [u8], c: u8) -> Line
     ensures { λ r. ⌜ held r (now (buf .exit)) ≡ fed (length (now (buf .entry))) (held line (now (buf .entry))) c ⌝ }
+    ensures leaves { λ r. ⌜ (line .at ≤ r .at) × (drop (r .at) (now (buf .exit)) ≡ drop (r .at) (now (buf .entry))) ⌝ }
 {
     let at = line.at;
     if at < buf.len() {

@@ -1,13 +1,13 @@
 // Answers in the words of the bench language.
 use answers::Guard;
 use answers::Opened;
-use answers::Refusal;
 use answers::Sealed;
 use lines::Answer;
 use lines::address;
 use lines::decimal;
 use lines::first;
 use lines::hex;
+use lines::refused;
 use lines::word;
 
 pub(crate) fn bad() -> Answer {
@@ -16,19 +16,6 @@ pub(crate) fn bad() -> Answer {
 
 pub(crate) fn done() -> Answer {
     first(b"ok")
-}
-
-// The words stand in the order of the refusals' numbers, which start at 1.
-pub(crate) fn refused(why: Refusal) -> Answer {
-    let n = answers::number(why);
-    let a = decimal(first(b"refused"), n as u64);
-    word(
-        a,
-        text::field(
-            b"\troom\tlong\tshort\tform\tsecurity\tnokey\ttop\tstale\tforged\tfull\tcommand\tprotection\tabsent\targument",
-            n as usize,
-        ),
-    )
 }
 
 pub(crate) fn opened(found: Opened) -> Answer {

@@ -1,12 +1,12 @@
 // The hash and the keyed hash, with the octets that a refusal answers.
 use crate::answer::done;
-use crate::answer::refused;
 use crate::lent::key_from;
 use crate::read::Frame;
 use answers::Refusal;
 use cipher::Hashed;
 use lines::Answer;
 use lines::hex;
+use lines::refused;
 
 pub(crate) fn hash(f: Frame) -> Answer {
     let o = f.octets;

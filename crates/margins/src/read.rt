@@ -1,21 +1,7 @@
 // The fields of a line, read by its form and kept by value.
-use text::Address;
-use text::Number;
 use text::Octets;
 
-// How many fields, and the kind of each, 0 where there is none.
-pub struct Form {
-    pub n: usize,
-    pub kinds: [u8; 5],
-}
-
-// A number, and whether it was read well.
-pub struct Value {
-    pub good: bool,
-    pub x: u64,
-}
-
-// Up to 512 octets.
+// The first n octets, and whether they were read well.
 pub struct Frame {
     pub good: bool,
     pub n: usize,
@@ -26,88 +12,26 @@ pub struct Frame {
 // place, and the octets, none where its form has none.
 pub struct Fields {
     pub good: bool,
-    pub v: [u64; 5],
+    pub v: [u64; 8],
     pub frame: Frame,
 }
 
-pub(crate) fn fields_of(line: &[u8], form: Form) -> Fields {
-    let kinds = form.kinds;
-    let mut now = Fields {
-        good: text::count(line) == form.n,
-        v: [0u64; 5],
-        frame: frame_of(b""),
-    };
-    for i in 0..5 {
-        let next = with_field(now, i, kinds[i], text::field(line, i));
-        now = next;
-    }
-    now
-}
-
-fn with_field(now: Fields, i: usize, kind: u8, s: &[u8]) -> Fields {
-    if kind == b'F' {
-        return with_frame(now, frame_of(s));
-    }
-    with_value(now, i, value_of(kind, s))
-}
-
-// A field by the letter of its kind in docs/MARGINS.md. Any other, the word's too, is not judged.
-fn value_of(kind: u8, s: &[u8]) -> Value {
-    match kind {
-        b'A' => address_of(s),
-        b'B' => decimal_of(s, 255),
-        b'S' => decimal_of(s, 256),
-        b'T' => protection_of(s),
-        _ => Value { good: true, x: 0 },
+// A form is as `lines::kind_of` reads it. F of docs/MARGINS.md is G, of the 512 octets that there is
+// room for. Its S, the first field of a line that has one, goes only up to the 256 that can be lent.
+pub(crate) fn fields_of(line: &[u8], form: &[u8]) -> Fields {
+    let v = lines::numbers_of(line, form);
+    let frame = frame_of(line, form);
+    let far = octets::octet(form, 1) == b'S' && v[1] > 256;
+    Fields {
+        good: lines::has_form(line, form) && frame.good && !far,
+        v,
+        frame,
     }
 }
 
-fn with_value(now: Fields, i: usize, read: Value) -> Fields {
-    let mut next = now;
-    next.good = now.good && read.good;
-    if i < 5 {
-        next.v[i] = read.x;
-    }
-    next
-}
-
-fn with_frame(now: Fields, read: Frame) -> Fields {
-    let mut next = now;
-    next.good = now.good && read.good;
-    next.frame = read;
-    next
-}
-
-fn address_of(s: &[u8]) -> Value {
-    let read = text::address_of(s);
-    match read {
-        Address::Is(a) => Value { good: true, x: a },
-        Address::Bad => Value { good: false, x: 0 },
-    }
-}
-
-fn decimal_of(s: &[u8], most: u32) -> Value {
-    let read = text::number_of(s, most);
-    match read {
-        Number::Is(n) => Value {
-            good: true,
-            x: n as u64,
-        },
-        Number::Bad => Value { good: false, x: 0 },
-    }
-}
-
-// 256 stands for none.
-fn protection_of(s: &[u8]) -> Value {
-    if octets::same(s, b"none") {
-        return Value { good: true, x: 256 };
-    }
-    decimal_of(s, 255)
-}
-
-fn frame_of(s: &[u8]) -> Frame {
+fn frame_of(line: &[u8], form: &[u8]) -> Frame {
     let mut octets = [0u8; 512];
-    let read = text::octets_of(s, &mut octets);
+    let read = lines::octets_by(line, form, b"G", &mut octets);
     match read {
         Octets::Are(n) => Frame {
             good: true,

@@ -4,47 +4,28 @@ use crate::hashes;
 use crate::opening;
 use crate::parts;
 use crate::read::Fields;
-use crate::read::Form;
 use crate::read::fields_of;
 use crate::sealing;
 use crate::writing::write;
 use commands::Command;
 use lines::Answer;
 
+// A number beyond the words for a line that has none of them; it has no field at all, a form that no
+// line has.
 pub(crate) fn answer_to(long: bool, line: &[u8]) -> Answer {
-    let w = word_number(line);
-    let x = fields_of(line, form_of(w));
+    let w = text::which(
+        b"open\topenaps\tseal\tsealaps\tremove\ttunnel\tdown\thash\tkeyedhash\tkey\tdigest\tinner\ttlvs\tvalue",
+        text::field(line, 0),
+    );
+    let form = text::field(
+        b".SG\t.SAG\t.SG\t.SABG\t.SA\t.SAG\t.SG\t.G\t.G\t.TG\t.TG\t.TG\t.TG\t.TBG",
+        w,
+    );
+    let x = fields_of(line, form);
     if long || !x.good {
         return bad();
     }
     answer_well(w, x)
-}
-
-// A number beyond the words for a line that has none of them.
-fn word_number(line: &[u8]) -> usize {
-    text::which(
-        b"open\topenaps\tseal\tsealaps\tremove\ttunnel\tdown\thash\tkeyedhash\tkey\tdigest\tinner\ttlvs\tvalue",
-        text::field(line, 0),
-    )
-}
-
-// The kinds of the fields, a dot for the word itself. A number beyond the words has no field at
-// all, a form that no line has.
-fn form_of(w: usize) -> Form {
-    let s = text::field(
-        b".SF\t.SAF\t.SF\t.SABF\t.SA\t.SAF\t.SF\t.F\t.F\t.TF\t.TF\t.TF\t.TF\t.TBF",
-        w,
-    );
-    Form {
-        n: s.len(),
-        kinds: [
-            octets::octet(s, 0),
-            octets::octet(s, 1),
-            octets::octet(s, 2),
-            octets::octet(s, 3),
-            octets::octet(s, 4),
-        ],
-    }
 }
 
 fn answer_well(w: usize, x: Fields) -> Answer {

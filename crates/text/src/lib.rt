@@ -13,6 +13,7 @@ pub use cursor::put;
 pub use decimal::Number;
 pub use decimal::number_of;
 pub use decimal::put_decimal;
+pub use digits::all_digits;
 pub use fields::count;
 pub use fields::field;
 pub use fields::which;

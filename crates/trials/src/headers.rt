@@ -1,12 +1,9 @@
 // Requests on frames, which need no board.
 use crate::answer::bad;
 use crate::answer::done;
-use crate::answer::refused;
-use crate::read::address_of;
-use crate::read::count_of;
-use crate::read::frame_of;
-use crate::read::lone_frame;
-use crate::read::octet_of;
+use crate::read::Frame;
+use crate::read::counter;
+use crate::read::octet;
 use frames::Layer;
 use frames::Read;
 use frames::Secured;
@@ -14,42 +11,25 @@ use lines::Answer;
 use lines::address;
 use lines::decimal;
 use lines::hex;
+use lines::refused;
 use lines::word;
 
-pub(crate) fn frame(line: &[u8]) -> Answer {
-    let f = lone_frame(line);
-    if !f.good {
-        return bad();
-    }
+pub(crate) fn frame(f: Frame) -> Answer {
     let o = f.octets;
     read(frames::read_network(text::front(&o, f.n)))
 }
 
-pub(crate) fn aps_frame(line: &[u8]) -> Answer {
-    let sender = address_of(text::field(line, 1));
-    let f = frame_of(text::field(line, 2));
-    let good = text::count(line) == 3 && sender.good && f.good;
-    if !good {
-        return bad();
-    }
+pub(crate) fn aps_frame(sender: u64, f: Frame) -> Answer {
     let o = f.octets;
-    read(frames::read_aps(text::front(&o, f.n), sender.a))
+    read(frames::read_aps(text::front(&o, f.n), sender))
 }
 
-pub(crate) fn plain_frame(line: &[u8]) -> Answer {
-    let f = lone_frame(line);
-    if !f.good {
-        return bad();
-    }
+pub(crate) fn plain_frame(f: Frame) -> Answer {
     let o = f.octets;
     read(frames::read_network_plain(text::front(&o, f.n)))
 }
 
-pub(crate) fn plain_aps(line: &[u8]) -> Answer {
-    let f = lone_frame(line);
-    if !f.good {
-        return bad();
-    }
+pub(crate) fn plain_aps(f: Frame) -> Answer {
     let o = f.octets;
     read(frames::read_aps_plain(text::front(&o, f.n)))
 }
@@ -72,59 +52,33 @@ fn secured(s: Secured) -> Answer {
     decimal(f, s.sequence as u64)
 }
 
-pub(crate) fn nonce(line: &[u8]) -> Answer {
-    let sender = address_of(text::field(line, 1));
-    let counter = count_of(text::field(line, 2), u32::MAX);
-    let control = octet_of(text::field(line, 3));
-    let good = text::count(line) == 4 && sender.good && counter.good && control.good;
-    if !good {
-        return bad();
-    }
-    let n = frames::nonce(sender.a, counter.n, control.x);
+pub(crate) fn nonce(sender: u64, count: u64, control: u64) -> Answer {
+    let n = frames::nonce(sender, counter(count), octet(control));
     hex(done(), &n)
 }
 
-pub(crate) fn aux(line: &[u8]) -> Answer {
-    let identifier = octet_of(text::field(line, 1));
-    let counter = count_of(text::field(line, 2), u32::MAX);
-    let sender = address_of(text::field(line, 3));
-    let number = octet_of(text::field(line, 4));
-    let numbers = identifier.good && counter.good && sender.good && number.good;
-    let good = text::count(line) == 5 && numbers;
-    if !good {
-        return bad();
-    }
+pub(crate) fn aux(identifier: u64, count: u64, sender: u64, number: u64) -> Answer {
+    let id = octet(identifier);
     let mut out = [0xeeu8; 14];
-    frames::lay_auxiliary(&mut out, 0, identifier.x, counter.n, sender.a, number.x);
-    let n = if identifier.x % 4 == 1 { 14 } else { 13 };
+    frames::lay_auxiliary(&mut out, 0, id, counter(count), sender, octet(number));
+    let n = if id % 4 == 1 { 14 } else { 13 };
     hex(done(), text::front(&out, n))
 }
 
-pub(crate) fn auth(line: &[u8]) -> Answer {
-    let h = octet_of(text::field(line, 1));
-    let n = octet_of(text::field(line, 2));
-    let f = frame_of(text::field(line, 3));
-    let good = text::count(line) == 4 && h.good && n.good && f.good;
-    if !good {
-        return bad();
-    }
+pub(crate) fn auth(h: u64, n: u64, f: Frame) -> Answer {
     let o = f.octets;
     let mut out = [0xeeu8; 32];
-    frames::lay_authenticated(&mut out, text::front(&o, f.n), h.x as usize, n.x as usize);
+    frames::lay_authenticated(&mut out, text::front(&o, f.n), h as usize, n as usize);
     hex(done(), &out)
 }
 
-// The header of the plain or, raised, of the secured frame.
-pub(crate) fn laid(raised: bool, line: &[u8]) -> Answer {
-    let layer = count_of(text::field(line, 1), 1);
-    let h = octet_of(text::field(line, 2));
-    let f = frame_of(text::field(line, 3));
-    let good = text::count(line) == 4 && layer.good && h.good && f.good;
-    if !good {
+// The header of the plain or, raised, of the secured frame, of layer 0 or 1.
+pub(crate) fn laid(raised: bool, layer: u64, h: u64, f: Frame) -> Answer {
+    if layer > 1 {
         return bad();
     }
     let o = f.octets;
-    let out = header(raised, layer.n == 1, text::front(&o, f.n), h.x as usize);
+    let out = header(raised, layer == 1, text::front(&o, f.n), h as usize);
     hex(done(), &out)
 }
 

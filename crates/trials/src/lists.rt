@@ -2,7 +2,6 @@
 ghost use mathlib.Core.Path.{_≡_};
 ghost use Prim.Native.Nat.{_≤_};
 ghost use lib.ListN.{length, take};
-use crate::answer::refused;
 use crate::answer::told;
 use crate::desk::Desk;
 use crate::desk::Reply;
@@ -10,39 +9,13 @@ use crate::desk::reply_bad;
 use crate::desk::reply_done;
 use crate::desk::with_lists;
 use crate::keys::after;
-use crate::read::address_of;
-use crate::read::index_of;
-use crate::read::key_of;
-use crate::read::lone_address;
-use crate::read::octet_of;
+use crate::read::octet;
 use answers::Outcome;
 use board::Board;
-
-// A network key and where it is to go.
-struct Install {
-    good: bool,
-    slot: usize,
-    number: u8,
-    key: [u8; 16],
-}
-
-// A sender of a slot.
-struct Sender {
-    good: bool,
-    slot: usize,
-    a: u64,
-}
-
-pub(crate) fn make(line: &[u8], desk: Desk) -> Reply {
-    let own = lone_address(line);
-    if !own.good {
-        return reply_bad(desk);
-    }
-    begun(own.a, desk)
-}
+use lines::refused;
 
 // A refused board is not taken: the old one stays.
-fn begun(own: u64, desk: Desk) -> Reply {
+pub(crate) fn make(own: u64, desk: Desk) -> Reply {
     let made = board::make(own);
     let outcome = made.answer;
     let b = made.board;
@@ -67,82 +40,44 @@ fn started(b: Board, rows: usize, tops: usize) -> Desk {
     }
 }
 
-pub(crate) fn lend(line: &[u8], desk: Desk) -> Reply {
-    let rows = index_of(text::field(line, 1), 128);
-    let tops = index_of(text::field(line, 2), 128);
-    let good = text::count(line) == 3 && rows.good && tops.good;
-    if !good {
+pub(crate) fn lend(rows: u64, tops: u64, desk: Desk) -> Reply {
+    if rows > 128 || tops > 128 {
         return reply_bad(desk);
     }
     let mut next = desk;
-    next.rows = rows.i;
-    next.tops = tops.i;
+    next.rows = rows as usize;
+    next.tops = tops as usize;
     reply_done(next)
 }
 
-pub(crate) fn network(line: &[u8], desk: Desk) -> Reply {
-    let asked = install_of(line);
-    if !asked.good {
-        return reply_bad(desk);
-    }
-    installed(asked, desk)
-}
-
-fn install_of(line: &[u8]) -> Install {
-    let slot = octet_of(text::field(line, 1));
-    let number = octet_of(text::field(line, 2));
-    let read = key_of(text::field(line, 3));
-    let key = read.octets;
-    Install {
-        good: text::count(line) == 4 && slot.good && number.good && read.good,
-        slot: slot.x as usize,
-        number: number.x,
-        key,
-    }
-}
-
-fn installed(asked: Install, desk: Desk) -> Reply {
+pub(crate) fn network(slot: u64, number: u64, key: [u8; 16], desk: Desk) -> Reply {
     let mut addrs = desk.addrs;
     let mut floors = desk.floors;
     let rows = addresses_of(desk.rows, &addrs);
     let tops = floors_of(desk.tops, &floors);
     let b = desk.board;
-    let key = asked.key;
     let done = board::install(
         b,
         &mut addrs[..rows],
         &mut floors[..tops],
-        asked.slot,
-        asked.number,
+        slot as usize,
+        octet(number),
         key,
     );
     after(done, with_lists(desk, addrs, floors))
 }
 
-pub(crate) fn forget(line: &[u8], desk: Desk) -> Reply {
-    let asked = sender_of(line);
-    if !asked.good {
-        return reply_bad(desk);
-    }
-    forgotten(asked, desk)
-}
-
-fn sender_of(line: &[u8]) -> Sender {
-    let slot = octet_of(text::field(line, 1));
-    let sender = address_of(text::field(line, 2));
-    Sender {
-        good: text::count(line) == 3 && slot.good && sender.good,
-        slot: slot.x as usize,
-        a: sender.a,
-    }
-}
-
-fn forgotten(asked: Sender, desk: Desk) -> Reply {
+pub(crate) fn forget(slot: u64, sender: u64, desk: Desk) -> Reply {
     let mut addrs = desk.addrs;
     let mut floors = desk.floors;
     let rows = addresses_of(desk.rows, &addrs);
     let tops = floors_of(desk.tops, &floors);
-    let outcome = board::forget(&mut addrs[..rows], &mut floors[..tops], asked.slot, asked.a);
+    let outcome = board::forget(
+        &mut addrs[..rows],
+        &mut floors[..tops],
+        slot as usize,
+        sender,
+    );
     Reply {
         answer: told(outcome),
         desk: with_lists(desk, addrs, floors),

@@ -5,63 +5,25 @@ use crate::desk::Reply;
 use crate::desk::reply_bad;
 use crate::desk::reply_done;
 use crate::desk::with_board;
-use crate::read::address_of;
-use crate::read::count_of;
-use crate::read::index_of;
-use crate::read::key_of;
-use crate::read::lone_octet;
-use crate::read::octet_of;
+use crate::read::counter;
+use crate::read::octet;
 use board::Active;
 use board::Board;
 use board::Link;
 use board::Slot;
 
-struct SlotSet {
-    good: bool,
-    second: bool,
-    slot: Slot,
-}
-
-struct LinkSet {
-    good: bool,
-    entry: usize,
-    link: Link,
-}
-
-struct RowSet {
-    good: bool,
-    row: usize,
-    a: u64,
-    floor: u32,
-}
-
-pub(crate) fn set_slot(line: &[u8], desk: Desk) -> Reply {
-    let asked = slot_set_of(line);
-    if !asked.good {
+// A slot or an entry has no number above its last, and is there or not: 1 or 0.
+pub(crate) fn set_slot(i: u64, present: u64, number: u64, key: [u8; 16], desk: Desk) -> Reply {
+    if i > 1 || present > 1 {
         return reply_bad(desk);
     }
-    let b = desk.board;
-    let s = asked.slot;
-    reply_done(with_board(desk, slot_put(b, asked.second, s)))
-}
-
-fn slot_set_of(line: &[u8]) -> SlotSet {
-    let i = count_of(text::field(line, 1), 1);
-    let present = count_of(text::field(line, 2), 1);
-    let number = octet_of(text::field(line, 3));
-    let read = key_of(text::field(line, 4));
-    let key = read.octets;
     let slot = Slot {
-        present: present.n == 1,
-        seq: number.x,
+        present: present == 1,
+        seq: octet(number),
         key,
     };
-    let good = i.good && present.good && number.good && read.good;
-    SlotSet {
-        good: text::count(line) == 5 && good,
-        second: i.n == 1,
-        slot,
-    }
+    let b = desk.board;
+    reply_done(with_board(desk, slot_put(b, i == 1, slot)))
 }
 
 fn slot_put(b: Board, second: bool, s: Slot) -> Board {
@@ -74,35 +36,18 @@ fn slot_put(b: Board, second: bool, s: Slot) -> Board {
     next
 }
 
-pub(crate) fn set_link(line: &[u8], desk: Desk) -> Reply {
-    let asked = link_set_of(line);
-    if !asked.good {
+pub(crate) fn set_link(v: [u64; 8], key: [u8; 16], desk: Desk) -> Reply {
+    if v[1] > 7 || v[2] > 1 {
         return reply_bad(desk);
     }
-    let b = desk.board;
-    let l = asked.link;
-    reply_done(with_board(desk, link_put(b, asked.entry, l)))
-}
-
-fn link_set_of(line: &[u8]) -> LinkSet {
-    let entry = index_of(text::field(line, 1), 7);
-    let present = count_of(text::field(line, 2), 1);
-    let partner = address_of(text::field(line, 3));
-    let read = key_of(text::field(line, 4));
-    let floor = count_of(text::field(line, 5), u32::MAX);
-    let key = read.octets;
     let link = Link {
-        present: present.n == 1,
-        partner: partner.a,
+        present: v[2] == 1,
+        partner: v[3],
         key,
-        floor: floor.n,
+        floor: counter(v[5]),
     };
-    let good = entry.good && present.good && partner.good && read.good && floor.good;
-    LinkSet {
-        good: text::count(line) == 6 && good,
-        entry: entry.i,
-        link,
-    }
+    let b = desk.board;
+    reply_done(with_board(desk, link_put(b, v[1] as usize, link)))
 }
 
 fn link_put(b: Board, i: usize, l: Link) -> Board {
@@ -114,24 +59,11 @@ fn link_put(b: Board, i: usize, l: Link) -> Board {
 }
 
 // The row is stored, whether it is lent or not.
-pub(crate) fn set_row(line: &[u8], desk: Desk) -> Reply {
-    let asked = row_set_of(line);
-    if !asked.good {
+pub(crate) fn set_row(row: u64, sender: u64, floor: u64, desk: Desk) -> Reply {
+    if row > 127 {
         return reply_bad(desk);
     }
-    reply_done(row_put(desk, asked.row, asked.a, asked.floor))
-}
-
-fn row_set_of(line: &[u8]) -> RowSet {
-    let row = index_of(text::field(line, 1), 127);
-    let a = address_of(text::field(line, 2));
-    let floor = count_of(text::field(line, 3), u32::MAX);
-    RowSet {
-        good: text::count(line) == 4 && row.good && a.good && floor.good,
-        row: row.i,
-        a: a.a,
-        floor: floor.n,
-    }
+    reply_done(row_put(desk, row as usize, sender, counter(floor)))
 }
 
 fn row_put(desk: Desk, r: usize, a: u64, floor: u32) -> Desk {
@@ -143,13 +75,9 @@ fn row_put(desk: Desk, r: usize, a: u64, floor: u32) -> Desk {
     next
 }
 
-pub(crate) fn set_active(line: &[u8], desk: Desk) -> Reply {
-    let i = lone_octet(line);
-    if !i.good {
-        return reply_bad(desk);
-    }
+pub(crate) fn set_active(i: u64, desk: Desk) -> Reply {
     let b = desk.board;
-    reply_done(with_board(desk, active_put(b, i.x)))
+    reply_done(with_board(desk, active_put(b, octet(i))))
 }
 
 fn active_put(b: Board, i: u8) -> Board {

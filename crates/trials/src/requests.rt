@@ -7,71 +7,84 @@ use crate::headers;
 use crate::keys;
 use crate::lists;
 use crate::raw;
+use crate::read::frame_at;
+use crate::read::key_at;
 use crate::show;
 use lines::Answer;
+
+// A line's request by the number of its word, and the numbers in its fields.
+struct Asked {
+    w: usize,
+    v: [u64; 8],
+}
 
 // The words stand in runs: 0 to 8 change a board, 9 to 12 show it, 13 and 14 change the desk, with
 // a board or without, and the rest ask for neither. The runs are parted before the words are, since
 // a desk is paid for in every arm.
 pub(crate) fn reply_to(long: bool, line: &[u8], desk: Desk) -> Reply {
-    let w = word_of(long, line);
+    let asked = asked_of(long, line);
+    let w = asked.w;
+    let v = asked.v;
     if w > 14 {
         return Reply {
-            answer: alone(w, line),
+            answer: alone(w, v, line),
             desk,
         };
     }
     if w > 12 {
-        return without_board(w, line, desk);
+        return without_board(w, v, desk);
     }
     if !desk.ready {
         return reply_bad(desk);
     }
     if w > 8 {
         return Reply {
-            answer: shown(w, line, desk),
+            answer: shown(w, desk),
             desk,
         };
     }
-    with_board(w, line, desk)
+    with_board(w, v, line, desk)
 }
 
-// A number beyond the words for a line that has none of them.
-fn word_of(long: bool, line: &[u8]) -> usize {
-    if long {
-        return 24;
-    }
-    text::which(
+// A number beyond the words for a line that is too long, has none of them, or not its word's form.
+fn asked_of(long: bool, line: &[u8]) -> Asked {
+    let word = text::which(
         b"network\tforget\tswitch\tlink\tunlink\tsetslot\tsetlink\tsetrow\tsetactive\tslots\tlinks\trows\tcounters\tboard\tlend\tframe\tapsframe\tplainframe\tplainaps\tnonce\taux\tauth\tclear\traise",
         text::field(line, 0),
-    )
+    );
+    let form = text::field(
+        b".BBK\t.BA\t.B\t.AK\t.A\t.BBBK\t.BBAKC\t.BAC\t.B\t.\t.\t.\t.\t.A\t.SS\t.F\t.AF\t.F\t.F\t.ACB\t.BCAB\t.BBF\t.BBF\t.BBF",
+        word,
+    );
+    let good = !long && lines::has_form(line, form);
+    Asked {
+        w: if good { word } else { 24 },
+        v: lines::numbers_of(line, form),
+    }
 }
 
-fn with_board(w: usize, line: &[u8], desk: Desk) -> Reply {
+fn with_board(w: usize, v: [u64; 8], line: &[u8], desk: Desk) -> Reply {
     match w {
-        0 => lists::network(line, desk),
-        1 => lists::forget(line, desk),
-        2 => keys::switch(line, desk),
-        3 => keys::link(line, desk),
-        4 => keys::unlink(line, desk),
-        5 => raw::set_slot(line, desk),
-        6 => raw::set_link(line, desk),
-        7 => raw::set_row(line, desk),
-        _ => raw::set_active(line, desk),
+        0 => lists::network(v[1], v[2], key_at(line, 3), desk),
+        1 => lists::forget(v[1], v[2], desk),
+        2 => keys::switch(v[1], desk),
+        3 => keys::link(v[1], key_at(line, 2), desk),
+        4 => keys::unlink(v[1], desk),
+        5 => raw::set_slot(v[1], v[2], v[3], key_at(line, 4), desk),
+        6 => raw::set_link(v, key_at(line, 4), desk),
+        7 => raw::set_row(v[1], v[2], v[3], desk),
+        _ => raw::set_active(v[1], desk),
     }
 }
 
-fn without_board(w: usize, line: &[u8], desk: Desk) -> Reply {
+fn without_board(w: usize, v: [u64; 8], desk: Desk) -> Reply {
     if w == 13 {
-        return lists::make(line, desk);
+        return lists::make(v[1], desk);
     }
-    lists::lend(line, desk)
+    lists::lend(v[1], v[2], desk)
 }
 
-fn shown(w: usize, line: &[u8], desk: Desk) -> Answer {
-    if text::count(line) != 1 {
-        return bad();
-    }
+fn shown(w: usize, desk: Desk) -> Answer {
     let b = desk.board;
     let links = b.links;
     let addrs = desk.addrs;
@@ -84,17 +97,17 @@ fn shown(w: usize, line: &[u8], desk: Desk) -> Answer {
     }
 }
 
-fn alone(w: usize, line: &[u8]) -> Answer {
+fn alone(w: usize, v: [u64; 8], line: &[u8]) -> Answer {
     match w {
-        15 => headers::frame(line),
-        16 => headers::aps_frame(line),
-        17 => headers::plain_frame(line),
-        18 => headers::plain_aps(line),
-        19 => headers::nonce(line),
-        20 => headers::aux(line),
-        21 => headers::auth(line),
-        22 => headers::laid(false, line),
-        23 => headers::laid(true, line),
+        15 => headers::frame(frame_at(line, 1)),
+        16 => headers::aps_frame(v[1], frame_at(line, 2)),
+        17 => headers::plain_frame(frame_at(line, 1)),
+        18 => headers::plain_aps(frame_at(line, 1)),
+        19 => headers::nonce(v[1], v[2], v[3]),
+        20 => headers::aux(v[1], v[2], v[3], v[4]),
+        21 => headers::auth(v[1], v[2], frame_at(line, 3)),
+        22 => headers::laid(false, v[1], v[2], frame_at(line, 3)),
+        23 => headers::laid(true, v[1], v[2], frame_at(line, 3)),
         _ => bad(),
     }
 }

@@ -1,4 +1,5 @@
 // Answers in the words of the bench language.
+use answers::Refusal;
 use cipher::Fault;
 use lines::Answer;
 use lines::first;
@@ -21,14 +22,17 @@ pub(crate) fn told(answer: cipher::Answer, out: [u8; 256]) -> Answer {
     }
 }
 
+// The cipher's faults are refusals of the same names and numbers.
 pub(crate) fn refused(fault: Fault) -> Answer {
-    match fault {
-        Fault::Room => first(b"refused\t1\troom"),
-        Fault::Long => first(b"refused\t2\tlong"),
-        Fault::Short => first(b"refused\t3\tshort"),
-        Fault::Forged => first(b"refused\t9\tforged"),
-        Fault::Argument => first(b"refused\t14\targument"),
-    }
+    lines::refused(
+        match fault {
+            Fault::Room => Refusal::Room,
+            Fault::Long => Refusal::Long,
+            Fault::Short => Refusal::Short,
+            Fault::Forged => Refusal::Forged,
+            Fault::Argument => Refusal::Argument,
+        },
+    )
 }
 
 // Writes an answer behind its line's number.

@@ -1,79 +1,30 @@
-// Fields of a request, by value: what was read, and whether it was good.
-use text::Number;
+// Octets of a line's fields, by value. The line's form was judged before, so that all of them are good.
 use text::Octets;
 
-pub struct Count {
-    pub good: bool,
-    pub n: usize,
-}
-
-pub struct Block {
-    pub good: bool,
-    pub octets: [u8; 16],
-}
-
-pub struct Nonce {
-    pub good: bool,
-    pub octets: [u8; 13],
-}
-
-// Octets of any length up to 512.
+// The first n octets.
 pub struct Data {
-    pub good: bool,
     pub n: usize,
     pub octets: [u8; 512],
 }
 
-pub(crate) fn count_of(f: &[u8], most: u32) -> Count {
-    let read = text::number_of(f, most);
-    match read {
-        Number::Is(n) => Count {
-            good: true,
-            n: n as usize,
-        },
-        Number::Bad => Count { good: false, n: 0 },
-    }
-}
-
-pub(crate) fn block_of(f: &[u8]) -> Block {
+pub(crate) fn block_at(line: &[u8], i: usize) -> [u8; 16] {
     let mut octets = [0u8; 16];
-    let read = text::octets_of(f, &mut octets);
-    Block {
-        good: are(read, 16),
-        octets,
-    }
+    text::octets_of(text::field(line, i), &mut octets);
+    octets
 }
 
-pub(crate) fn nonce_of(f: &[u8]) -> Nonce {
+pub(crate) fn nonce_at(line: &[u8], i: usize) -> [u8; 13] {
     let mut octets = [0u8; 13];
-    let read = text::octets_of(f, &mut octets);
-    Nonce {
-        good: are(read, 13),
-        octets,
-    }
+    text::octets_of(text::field(line, i), &mut octets);
+    octets
 }
 
-pub(crate) fn data_of(f: &[u8], most: usize) -> Data {
+pub(crate) fn data_at(line: &[u8], i: usize) -> Data {
     let mut octets = [0u8; 512];
-    let read = text::octets_of(f, &mut octets);
-    match read {
-        Octets::Are(n) => Data {
-            good: n <= most,
-            n,
-            octets,
-        },
-        Octets::Bad => Data {
-            good: false,
-            n: 0,
-            octets,
-        },
-    }
-}
-
-// Whether so many octets were read, and no fewer.
-fn are(read: Octets, many: usize) -> bool {
-    match read {
-        Octets::Are(n) => n == many,
-        Octets::Bad => false,
-    }
+    let read = text::octets_of(text::field(line, i), &mut octets);
+    let n = match read {
+        Octets::Are(n) => n,
+        Octets::Bad => 0,
+    };
+    Data { n, octets }
 }

@@ -7,10 +7,9 @@ use crate::answer::done;
 use crate::answer::refused;
 use crate::answer::told;
 use crate::read::Data;
-use crate::read::block_of;
-use crate::read::count_of;
-use crate::read::data_of;
-use crate::read::nonce_of;
+use crate::read::block_at;
+use crate::read::data_at;
+use crate::read::nonce_at;
 use cipher::Hashed;
 use lines::Answer;
 use lines::hex;
@@ -55,9 +54,8 @@ fn answer_to(w: usize, line: &[u8], lent: usize) -> Answer {
 }
 
 fn lend(line: &[u8], lent: usize) -> Reply {
-    let size = count_of(text::field(line, 1), 256);
-    let good = text::count(line) == 2 && size.good;
-    if !good {
+    let v = lines::numbers_of(line, b".S");
+    if !lines::has_form(line, b".S") || v[1] > 256 {
         return Reply {
             answer: bad(),
             lent,
@@ -65,37 +63,33 @@ fn lend(line: &[u8], lent: usize) -> Reply {
     }
     Reply {
         answer: done(),
-        lent: size.n,
+        lent: v[1] as usize,
     }
 }
 
 fn aes(line: &[u8]) -> Answer {
-    let key = block_of(text::field(line, 1));
-    let block = block_of(text::field(line, 2));
-    let good = text::count(line) == 3 && key.good && block.good;
-    if !good {
+    if !lines::has_form(line, b".KK") {
         return bad();
     }
-    let k = key.octets;
-    let b = block.octets;
-    let made = cipher::aes128_block(k, b);
+    let made = cipher::aes128_block(block_at(line, 1), block_at(line, 2));
     hex(done(), &made)
 }
 
+// The number of a field of octets is how many they are; a nonce has 13.
 fn ccm(opening: bool, line: &[u8], lent: usize) -> Answer {
-    let m = count_of(text::field(line, 1), 255);
-    let key = block_of(text::field(line, 2));
-    let nonce = nonce_of(text::field(line, 3));
-    let a = data_of(text::field(line, 4), 256);
-    let d = data_of(text::field(line, 5), 256);
-    let fields = m.good && key.good && nonce.good && a.good && d.good;
-    let good = text::count(line) == 6 && fields;
-    if !good {
+    let v = lines::numbers_of(line, b".BKFFF");
+    if !lines::has_form(line, b".BKFFF") || v[3] != 13 {
         return bad();
     }
-    let k = key.octets;
-    let n = nonce.octets;
-    called(opening, m.n, k, n, a, d, lent)
+    called(
+        opening,
+        v[1] as usize,
+        block_at(line, 2),
+        nonce_at(line, 3),
+        data_at(line, 4),
+        data_at(line, 5),
+        lent,
+    )
 }
 
 fn called(
@@ -121,26 +115,25 @@ fn called(
     told(answer, out)
 }
 
+// An input of up to 512 octets is tried.
 fn hash(line: &[u8]) -> Answer {
-    let d = data_of(text::field(line, 1), 512);
-    let good = text::count(line) == 2 && d.good;
-    if !good {
+    let v = lines::numbers_of(line, b".G");
+    if !lines::has_form(line, b".G") || v[1] > 512 {
         return bad();
     }
+    let d = data_at(line, 1);
     let o = d.octets;
     hashed(cipher::hash(text::front(&o, d.n)))
 }
 
 fn keyed_hash(line: &[u8]) -> Answer {
-    let key = block_of(text::field(line, 1));
-    let d = data_of(text::field(line, 2), 512);
-    let good = text::count(line) == 3 && key.good && d.good;
-    if !good {
+    let v = lines::numbers_of(line, b".KG");
+    if !lines::has_form(line, b".KG") || v[2] > 512 {
         return bad();
     }
-    let k = key.octets;
+    let d = data_at(line, 2);
     let o = d.octets;
-    hashed(cipher::keyed_hash(k, text::front(&o, d.n)))
+    hashed(cipher::keyed_hash(block_at(line, 1), text::front(&o, d.n)))
 }
 
 fn hashed(h: Hashed) -> Answer {

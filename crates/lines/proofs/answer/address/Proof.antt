@@ -1,4 +1,4 @@
--- Behind the tab of `tabbed`, `put_address` lays the address or leaves it out whole: `more`, twice, as `field` says.
+-- As `word`, with the address in hex.
 use mathlib.Core.List.{List}
 use Prim.Native.Nat.{ℕ}
 use native.Mathlib.Omega.{arith}

@@ -1,4 +1,4 @@
--- Behind the tab of `tabbed`, `put_decimal` lays the number or leaves it out whole: `more`, twice, as `field` says.
+-- As `word`, with the number in decimal.
 use mathlib.Core.List.{List}
 use Prim.Native.Nat.{ℕ}
 use native.Mathlib.Omega.{arith}

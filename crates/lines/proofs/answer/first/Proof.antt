@@ -1,4 +1,4 @@
--- The word is laid at place 0, so the first n octets are the word, or none where it has no room.
+-- A word that is put at the front of an empty answer is all of it, where it has room.
 use Prim.Native.Nat.{ℕ}
 use lib.ListN.{length, replicate, length-replicate}
 use mathlib.Core.Path.{_≡_, refl, sym, ap, ap₂, _∙_}

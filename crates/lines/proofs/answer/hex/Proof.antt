@@ -1,4 +1,4 @@
--- Behind the tab of `tabbed`, `put_hex` lays the digits or leaves them out whole: `more`, twice, as `field` says.
+-- As `word`, with the octets in hex.
 use mathlib.Core.List.{List}
 use Prim.Native.Nat.{ℕ}
 use native.Mathlib.Omega.{arith}

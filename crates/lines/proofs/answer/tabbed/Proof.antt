@@ -1,4 +1,4 @@
--- The tab is laid at place n, right behind what was said, or left out where that fills the room.
+-- A tab is put behind the answer, where it has room.
 use mathlib.Core.List.{[], _∷_}
 use native.Mathlib.Omega.{arith}
 use mathlib.Core.Path.{_≡_, refl, sym, ap, ap₂, _∙_}

@@ -1,4 +1,4 @@
--- Each `put` lays behind the one before. 20 digits, a tab, 8192 octets and a line feed are 8214: nothing is left out.
+-- Number, tab, answer and line feed are put one behind the other; 20, 1, 8192 and 1 octets are what the array has.
 use mathlib.Core.List.{List, [], _∷_}
 use Prim.Native.Nat.{ℕ}
 use native.Mathlib.Omega.{arith}

@@ -1,4 +1,4 @@
--- Behind the tab of `tabbed`, `put` lays the word or leaves it out whole: `more`, twice, as `field` says.
+-- The word is put behind a tab, and each of the two is left out where it has no room.
 use mathlib.Core.List.{List}
 use Prim.Native.Nat.{ℕ}
 use native.Mathlib.Omega.{arith}

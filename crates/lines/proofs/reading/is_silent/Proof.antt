@@ -1,4 +1,4 @@
--- The test for an empty line is the definition's first, and keeps the read of octet 0 within the line.
+-- The two tests are those of `silent`.
 use borrow.Author.Tests.{eq-eqb, ne-eqb}
 use Rattle.octets.proofs.Choices.{tests}
 use Rattle.lines.specs.Lines.{silent}

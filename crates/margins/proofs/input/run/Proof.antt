@@ -1,3 +1,4 @@
+-- Each turn leaves one less, so that the loop ends.
 use Prim.{Unit, tt}
 use borrow.Author.Needs.{needs}
 use Rattle.margins.proofs.input.run.Statement.{statement}
@@ -9,8 +10,8 @@ Inv-loop chunk₀ line₀ reader₀ turns₀ chunk line reader turns = Unit {0}
 abbrev μ-loop : tie.MeasureT-loop
 μ-loop chunk₀ line₀ reader₀ turns₀ chunk line reader turns = turns
 
-fresh-stop-requires : tie.Need-fresh-stop-requires Inv-loop μ-loop
-fresh-stop-requires c κs = search needs
+fresh-reader-requires : tie.Need-fresh-reader-requires Inv-loop μ-loop
+fresh-reader-requires c κs = search needs
 
 loop-holds : tie.Need-loop-holds Inv-loop μ-loop
 loop-holds c = tt
@@ -42,7 +43,7 @@ run-spec =
     (tie.spec
     Inv-loop
     μ-loop
-    fresh-stop-requires
+    fresh-reader-requires
     loop-holds
     read-on-requires
     answer-line-requires

@@ -1,3 +1,4 @@
+-- The rows of slot 1 are counted from 32 up to 64.
 use Prim.Native.Nat.{_≤_, _-_}
 use borrow.Author.Needs.{needs}
 use Rattle.margins.proofs.lent.made_lists.Statement.{statement}

@@ -1,3 +1,4 @@
+-- The rows are counted up to 64.
 use Prim.Native.Nat.{_≤_, _-_}
 use borrow.Author.Needs.{needs}
 use Rattle.margins.proofs.opening.changed_rows.Statement.{statement}

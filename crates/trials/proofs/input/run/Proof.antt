@@ -1,3 +1,4 @@
+-- Each turn leaves one less, so that the loop ends.
 use Prim.{Unit, tt}
 use borrow.Author.Needs.{needs}
 use Rattle.trials.proofs.input.run.Statement.{statement}
@@ -9,8 +10,8 @@ Inv-loop chunk₀ line₀ reader₀ desk₀ turns₀ chunk line reader desk turn
 abbrev μ-loop : tie.MeasureT-loop
 μ-loop chunk₀ line₀ reader₀ desk₀ turns₀ chunk line reader desk turns = turns
 
-fresh-stop-requires : tie.Need-fresh-stop-requires Inv-loop μ-loop
-fresh-stop-requires c κs = search needs
+fresh-reader-requires : tie.Need-fresh-reader-requires Inv-loop μ-loop
+fresh-reader-requires c κs = search needs
 
 fresh-desk-requires : tie.Need-fresh-desk-requires Inv-loop μ-loop
 fresh-desk-requires c κs = search needs
@@ -45,7 +46,7 @@ run-spec =
     (tie.spec
     Inv-loop
     μ-loop
-    fresh-stop-requires
+    fresh-reader-requires
     fresh-desk-requires
     loop-holds
     read-on-requires

@@ -1,3 +1,4 @@
+-- The lesser of the two is at most the list's length, and so is its own part's length.
 use native.Mathlib.Omega.{arith}
 use lib.ListN.{length-take}
 use borrow.Author.Needs.{needs}

@@ -1,3 +1,4 @@
+-- The entries are counted up to 8.
 use Prim.Native.Nat.{_≤_, _-_}
 use borrow.Author.Needs.{needs}
 use Rattle.trials.proofs.show.links.Statement.{statement}

@@ -1,3 +1,4 @@
+-- The rows are counted up to 128.
 use Prim.Native.Nat.{_≤_, _-_}
 use borrow.Author.Needs.{needs}
 use Rattle.trials.proofs.show.rows.Statement.{statement}

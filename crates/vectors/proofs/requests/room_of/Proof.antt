@@ -1,3 +1,4 @@
+-- The lesser of the two is at most the output's length, and so is its own part's length.
 use native.Mathlib.Omega.{arith}
 use lib.ListN.{length-take}
 use borrow.Author.Needs.{needs}

@@ -1,0 +1,40 @@
+-- A line's form has a letter for each of its fields. The bench language: "`bad`: the line is not one of those below, a field is
+-- malformed or beyond its range".
+-- Assumes nothing.
+use mathlib.Core.Bool.{Bool, true, false}
+use mathlib.Core.List.{List, [], _∷_}
+use Prim.Native.Nat.{ℕ, zero, suc}
+use lib.Dec.{eqb}
+use lib.ListN.{length}
+use Rattle.octets.specs.Choice.{if_then_else_, both}
+use Rattle.octets.specs.Lists.{at}
+use Rattle.text.specs.Fields.{fields, fieldAt}
+use Rattle.lines.specs.declared.forms.Value.{Value}
+use Rattle.lines.specs.Kinds.{kindOf, valueOf, good, number}
+
+-- field i of line l, counted from 0, by its letter in form f; a letter that the form does not have is 0
+unfoldable pub valueAt : List ℕ → List ℕ → ℕ → Value
+valueAt l f i = valueOf (kindOf (at f i)) (fieldAt l i)
+
+-- the first n fields are good
+unfoldable pub firstGood : List ℕ → List ℕ → ℕ → Bool
+firstGood l f zero = true
+firstGood l f (suc n) = both (firstGood l f n) (good (valueAt l f n))
+
+-- line l has form f: as many fields as that has letters, and all of them good
+unfoldable pub hasForm : List ℕ → List ℕ → Bool
+hasForm l f = both (eqb (fields l) (length f)) (firstGood l f (length f))
+
+-- the number in field i
+unfoldable pub numberAt : List ℕ → List ℕ → ℕ → ℕ
+numberAt l f i = number (valueAt l f i)
+
+-- c is one of these letters
+unfoldable pub among : ℕ → List ℕ → Bool
+among c [] = false
+among c (x ∷ l) = if eqb x c then true else among c l
+
+-- the first place of form f that has one of these letters, or the place behind it
+unfoldable pub placeOf : List ℕ → List ℕ → ℕ
+placeOf [] s = 0
+placeOf (x ∷ f) s = if among x s then 0 else suc (placeOf f s)
