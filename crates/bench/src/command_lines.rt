@@ -1,11 +1,14 @@
 // APS commands, read and written.
 use crate::answer::done;
 use crate::answer::refused;
+use crate::asked::Frame;
+use crate::desk::Desk;
 use crate::desk::Moved;
+use crate::desk::Reply;
+use crate::desk::reply_moved;
 use crate::desk::room_of;
-use crate::forms::command_form;
-use crate::forms::command_words;
-use crate::read::Frame;
+use crate::forms::COMMANDS;
+use crate::forms::form_place;
 use crate::sealing::written;
 use answers::Guard;
 use board::Board;
@@ -19,15 +22,15 @@ use lines::decimal;
 use lines::hex;
 use lines::word;
 
-// A command by its word's number, and its numbers, each at its field's place in a `write` line.
+// A command by its word's place in the table, and its numbers, each at its field's place in a `write`
+// line.
 struct Spelt {
     w: usize,
-    v: [u64; 7],
+    v: [u64; 8],
 }
 
-pub(crate) fn read(t: u64, f: Frame) -> Answer {
+pub(crate) fn read(guard: Guard, f: Frame) -> Answer {
     let o = f.octets;
-    let guard = guard_of(t);
     told(
         commands::read_command(text::front(&o, f.n), guard),
         f,
@@ -43,8 +46,8 @@ fn told(reading: Reading, f: Frame, guard: Guard) -> Answer {
     }
 }
 
-// 256 stands for none.
-fn guard_of(t: u64) -> Guard {
+// The value 256 is that of `none`.
+pub(crate) fn guard_of(t: u64) -> Guard {
     if t > 255 {
         return Guard::Clear;
     }
@@ -52,21 +55,15 @@ fn guard_of(t: u64) -> Guard {
 }
 
 fn spelt_out(s: Spelt, f: &[u8], guard: Guard) -> Answer {
-    let form = command_form(s.w);
-    let kinds = form.kinds;
+    let table = COMMANDS;
+    let form = text::field(&table, form_place(s.w));
     let v = s.v;
-    let mut a = named(s.w);
+    let mut a = word(done(), text::field(&table, s.w));
     for i in 3..7 {
-        let next = with_field(a, kinds[i], v[i], f, guard);
+        let next = with_field(a, octets::octet(form, i), v[i], f, guard);
         a = next;
     }
     a
-}
-
-fn named(w: usize) -> Answer {
-    let words = command_words();
-    let o = words.octets;
-    word(done(), text::field(text::front(&o, words.n), w))
 }
 
 // A field by the letter of its kind (see `forms`).
@@ -83,21 +80,33 @@ fn with_field(a: Answer, kind: u8, x: u64, f: &[u8], guard: Guard) -> Answer {
     }
 }
 
-pub(crate) fn tlv(v: [u64; 7], f: Frame) -> Answer {
+pub(crate) fn tlv(guard: Guard, tag: u8, f: Frame) -> Answer {
     let o = f.octets;
-    let value = commands::value_of(text::front(&o, f.n), guard_of(v[1]), (v[2] % 256) as u8);
-    hex(done(), value)
+    hex(done(), commands::value_of(text::front(&o, f.n), guard, tag))
 }
 
-pub(crate) fn write(v: [u64; 7], key: Frame, rest: Frame, b: Board, lent: usize) -> Moved {
+pub(crate) fn write(ack: bool, command: Command, key: Frame, rest: Frame, desk: Desk) -> Reply {
+    let b = desk.board;
+    let lent = desk.lent;
+    reply_moved(write_command(ack, command, key, rest, b, lent.room), desk)
+}
+
+fn write_command(
+    ack: bool,
+    command: Command,
+    key: Frame,
+    rest: Frame,
+    b: Board,
+    lent: usize,
+) -> Moved {
     let k = key.octets;
     let r = rest.octets;
     let mut out = [0u8; 256];
     let room = room_of(lent, &out);
     let sent = commands::write_command(
         b,
-        v[1] == 0,
-        command_of(v),
+        ack,
+        command,
         text::front(&k, key.n),
         text::front(&r, rest.n),
         &mut out[..room],
@@ -105,30 +114,28 @@ pub(crate) fn write(v: [u64; 7], key: Frame, rest: Frame, b: Board, lent: usize)
     written(sent, out)
 }
 
-// The command of a `write` line, by its form.
-fn command_of(v: [u64; 7]) -> Command {
-    let w = v[2];
+// The command of a `write` line, by its word's place in the table.
+pub(crate) fn command_of(w: usize, v: [u64; 8]) -> Command {
     match w {
-        0..=3 => Command::TransportKey(transported_of(v)),
-        4 => Command::UpdateDevice(v[3], (v[4] % 65536) as u16, (v[5] % 256) as u8),
-        5 => Command::RemoveDevice(v[3]),
-        6 => Command::RequestKey(Requested::Application(v[3])),
-        7 => Command::RequestKey(Requested::TrustCentre),
-        8 => Command::SwitchKey((v[3] % 256) as u8),
-        9 => Command::Tunnel(v[3]),
-        10 => Command::VerifyKey((v[3] % 256) as u8, v[4]),
-        11 => Command::ConfirmKey((v[3] % 256) as u8, (v[4] % 256) as u8, v[5]),
-        12 => Command::RelayDownstream,
+        0..=6 => Command::TransportKey(transported_of(w, v)),
+        8 => Command::UpdateDevice(v[3], (v[4] % 65536) as u16, (v[5] % 256) as u8),
+        10 => Command::RemoveDevice(v[3]),
+        12 => Command::RequestKey(Requested::Application(v[3])),
+        14 => Command::RequestKey(Requested::TrustCentre),
+        16 => Command::SwitchKey((v[3] % 256) as u8),
+        18 => Command::Tunnel(v[3]),
+        20 => Command::VerifyKey((v[3] % 256) as u8, v[4]),
+        22 => Command::ConfirmKey((v[3] % 256) as u8, (v[4] % 256) as u8, v[5]),
+        24 => Command::RelayDownstream,
         _ => Command::RelayUpstream,
     }
 }
 
-fn transported_of(v: [u64; 7]) -> Transported {
-    let w = v[2];
+fn transported_of(w: usize, v: [u64; 8]) -> Transported {
     match w {
         0 => Transported::Network((v[4] % 256) as u8, v[5], v[6]),
-        1 => Transported::TrustCentre(v[4], v[5]),
-        2 => Transported::ApplicationMaster(v[4], (v[5] % 256) as u8),
+        2 => Transported::TrustCentre(v[4], v[5]),
+        4 => Transported::ApplicationMaster(v[4], (v[5] % 256) as u8),
         _ => Transported::ApplicationLink(v[4], (v[5] % 256) as u8),
     }
 }
@@ -138,28 +145,28 @@ fn spelling(c: Command) -> Spelt {
     match c {
         Command::TransportKey(key) => match key {
             Transported::Network(q, d, s) => of(0, 0, q as u64, d, s),
-            Transported::TrustCentre(d, s) => of(1, 0, d, s, 0),
-            Transported::ApplicationMaster(p, i) => of(2, 0, p, i as u64, 0),
-            Transported::ApplicationLink(p, i) => of(3, 0, p, i as u64, 0),
+            Transported::TrustCentre(d, s) => of(2, 0, d, s, 0),
+            Transported::ApplicationMaster(p, i) => of(4, 0, p, i as u64, 0),
+            Transported::ApplicationLink(p, i) => of(6, 0, p, i as u64, 0),
         },
-        Command::UpdateDevice(d, s, t) => of(4, d, s as u64, t as u64, 0),
-        Command::RemoveDevice(t) => of(5, t, 0, 0, 0),
+        Command::UpdateDevice(d, s, t) => of(8, d, s as u64, t as u64, 0),
+        Command::RemoveDevice(t) => of(10, t, 0, 0, 0),
         Command::RequestKey(key) => match key {
-            Requested::Application(p) => of(6, p, 0, 0, 0),
-            Requested::TrustCentre => of(7, 0, 0, 0, 0),
+            Requested::Application(p) => of(12, p, 0, 0, 0),
+            Requested::TrustCentre => of(14, 0, 0, 0, 0),
         },
-        Command::SwitchKey(q) => of(8, q as u64, 0, 0, 0),
-        Command::Tunnel(d) => of(9, d, 0, 0, 0),
-        Command::VerifyKey(t, s) => of(10, t as u64, s, 0, 0),
-        Command::ConfirmKey(s, t, d) => of(11, s as u64, t as u64, d, 0),
-        Command::RelayDownstream => of(12, 0, 0, 0, 0),
-        Command::RelayUpstream => of(13, 0, 0, 0, 0),
+        Command::SwitchKey(q) => of(16, q as u64, 0, 0, 0),
+        Command::Tunnel(d) => of(18, d, 0, 0, 0),
+        Command::VerifyKey(t, s) => of(20, t as u64, s, 0, 0),
+        Command::ConfirmKey(s, t, d) => of(22, s as u64, t as u64, d, 0),
+        Command::RelayDownstream => of(24, 0, 0, 0, 0),
+        Command::RelayUpstream => of(26, 0, 0, 0, 0),
     }
 }
 
 fn of(w: usize, a: u64, b: u64, c: u64, d: u64) -> Spelt {
     Spelt {
         w,
-        v: [0, 0, 0, a, b, c, d],
+        v: [0, 0, 0, a, b, c, d, 0],
     }
 }

@@ -1,81 +1,45 @@
-// The words of the bench language, and the form of the line that each begins: a letter for each
-// field.
-//
-// `A` an address, `B`, `S` and `C` decimals up to 255, 65,535 and 4,294,967,295, `T` a protection,
-// `K` a key, `F` up to 256 octets, as the bench language names them. In a command `k` and `h` are
-// the octets of a key and a hash, `t` and `i` those of TLVs and an inner frame, of any length up to
-// 256, `n` is `ack` or `noack`, and `w` the command's word. A dot is the word itself.
+// The words of the bench language, each at an even place, and behind it the form of its line: a letter
+// for each field, as `lines::kind_of` has them. A dot is the line's word.
 
-// How many fields, and the kinds of the first seven, 0 where there is none.
-pub struct Form {
-    pub n: usize,
-    pub kinds: [u8; 7],
-}
+// `board` has a form with a counter besides, `write` one for each command.
+pub const REQUESTS: [u8; 187] = *b"board\t.A\t\
+    lend\t.SSS\t\
+    network\t.BBK\t\
+    switch\t.B\t\
+    link\t.AK\t\
+    unlink\t.A\t\
+    forget\t.BA\t\
+    open\t.F\t\
+    openaps\t.AF\t\
+    seal\t.F\t\
+    sealaps\t.ABF\t\
+    read\t.TF\t\
+    tlv\t.TBF\t\
+    write\t.nw\t\
+    hash\t.F\t\
+    keyedhash\t.KF\t\
+    state\t.\t\
+    heard\t.B\t\
+    links\t.";
 
-// The words of the commands, parted by tabs.
-pub struct Words {
-    pub n: usize,
-    pub octets: [u8; 128],
-}
+// The commands, each with the form of a `write` line: `n` is `ack` or `noack`, and `w` the word.
+pub const COMMANDS: [u8; 204] = *b"transport1\t.nwkBAA\t\
+    transport4\t.nwkAAt\t\
+    transport2\t.nwkABt\t\
+    transport3\t.nwkABt\t\
+    update\t.nwASBt\t\
+    remove\t.nwA\t\
+    request2\t.nwA\t\
+    request4\t.nw\t\
+    switchkey\t.nwB\t\
+    tunnel\t.nwAi\t\
+    verify\t.nwBAh\t\
+    confirm\t.nwBBA\t\
+    down\t.nwt\t\
+    up\t.nwt";
 
-// A number beyond the words for a line that has none of them.
-pub(crate) fn request_number(line: &[u8]) -> usize {
-    text::which(
-        b"switch\tlink\tunlink\topenaps\tseal\tsealaps\twrite\tnetwork\tforget\topen\tstate\tlinks\theard\tboard\tlend\thash\tkeyedhash\tread\ttlv",
-        text::field(line, 0),
-    )
-}
-
-// `board` has a form with a counter and one without, `write` one for each command. A number beyond
-// the words has no field at all, a form that no line has.
-pub(crate) fn request_form(w: usize, line: &[u8]) -> Form {
-    if w == 6 {
-        return command_form(command_number(text::field(line, 2)));
-    }
-    if w == 13 && text::count(line) == 3 {
-        return form_of(b".AC");
-    }
-    form_of(text::field(
-        b".B\t.AK\t.A\t.AF\t.F\t.ABF\t\t.BBK\t.BA\t.F\t.\t.\t.B\t.A\t.SSS\t.F\t.KF\t.TF\t.TBF",
-        w,
-    ))
-}
-
-pub(crate) fn command_form(w: usize) -> Form {
-    form_of(text::field(
-        b".nwkBAA\t.nwkAAt\t.nwkABt\t.nwkABt\t.nwASBt\t.nwA\t.nwA\t.nw\t.nwB\t.nwAi\t.nwBAh\t.nwBBA\t.nwt\t.nwt",
-        w,
-    ))
-}
-
-fn form_of(s: &[u8]) -> Form {
-    Form {
-        n: s.len(),
-        kinds: [
-            octets::octet(s, 0),
-            octets::octet(s, 1),
-            octets::octet(s, 2),
-            octets::octet(s, 3),
-            octets::octet(s, 4),
-            octets::octet(s, 5),
-            octets::octet(s, 6),
-        ],
-    }
-}
-
-// 14 where it is no command's word.
-pub(crate) fn command_number(s: &[u8]) -> usize {
-    let words = command_words();
-    let o = words.octets;
-    text::which(text::front(&o, words.n), s)
-}
-
-pub(crate) fn command_words() -> Words {
-    let mut octets = [0u8; 128];
-    let n = text::put(
-        &mut octets,
-        0,
-        b"transport1\ttransport4\ttransport2\ttransport3\tupdate\tremove\trequest2\trequest4\tswitchkey\ttunnel\tverify\tconfirm\tdown\tup",
-    );
-    Words { n, octets }
+// The place of a word's form. A form's is its own, so that a form in the place of a word finds no
+// word's.
+pub(crate) fn form_place(word: usize) -> usize {
+    word / 2 * 2 + 1
 }

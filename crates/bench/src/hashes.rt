@@ -1,7 +1,8 @@
 // The hash and the keyed hash, which need no board.
 use crate::answer::done;
 use crate::answer::refused;
-use crate::read::Frame;
+use crate::asked::Frame;
+use crate::asked::sixteen;
 use answers::Refusal;
 use cipher::Hashed;
 use lines::Answer;
@@ -12,9 +13,9 @@ pub(crate) fn hash(f: Frame) -> Answer {
     hashed(cipher::hash(text::front(&o, f.n)))
 }
 
-pub(crate) fn keyed_hash(key: [u8; 16], f: Frame) -> Answer {
+pub(crate) fn keyed_hash(key: Frame, f: Frame) -> Answer {
     let o = f.octets;
-    hashed(cipher::keyed_hash(key, text::front(&o, f.n)))
+    hashed(cipher::keyed_hash(sixteen(key), text::front(&o, f.n)))
 }
 
 // The only fault that hashing has is an input that is too long.
