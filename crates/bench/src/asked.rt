@@ -2,8 +2,8 @@
 use crate::command_lines::command_of;
 use crate::command_lines::guard_of;
 use crate::forms::COMMANDS;
+use crate::forms::ON_BOARD;
 use crate::forms::REQUESTS;
-use crate::forms::form_place;
 use answers::Guard;
 use commands::Command;
 use text::Octets;
@@ -26,10 +26,10 @@ pub enum OnBoard {
     OpenAps(u64),
     Seal,
     SealAps(u64, u8),
-    Write(bool, Command),
     State,
     Heard(usize),
     Links,
+    Write(bool, Command),
 }
 
 pub enum Alone {
@@ -55,26 +55,23 @@ pub struct Asked {
 }
 
 pub(crate) fn asked_of(line: &[u8]) -> Asked {
+    if octets::same(text::field(line, 0), b"write") {
+        return asked_write(line);
+    }
     let table = REQUESTS;
-    let word = text::field(line, 0);
-    let w = text::which(&table, word);
-    if octets::same(word, b"write") {
-        return asked_write(w, line);
-    }
-    if octets::same(word, b"board") && text::count(line) == 3 {
-        return asked_by(w, line, b".AC");
-    }
-    asked_by(w, line, text::field(&table, form_place(w)))
+    let w = lines::row_of(&table, line, 0);
+    let form = text::field(&table, w * 2 + 1);
+    asked_by(request_by(w, line, form), line, form)
 }
 
-fn asked_write(w: usize, line: &[u8]) -> Asked {
+fn asked_write(line: &[u8]) -> Asked {
     let table = COMMANDS;
-    let command = text::which(&table, text::field(line, 2));
-    asked_by(w, line, text::field(&table, form_place(command)))
+    let w = lines::row_of(&table, line, 2);
+    let form = text::field(&table, w * 2 + 1);
+    asked_by(write_by(w, line, form), line, form)
 }
 
-fn asked_by(w: usize, line: &[u8], form: &[u8]) -> Asked {
-    let request = request_by(w, line, form);
+fn asked_by(request: Request, line: &[u8], form: &[u8]) -> Asked {
     Asked {
         request,
         key: octets_by(line, form, b"Kkh"),
@@ -91,47 +88,53 @@ fn octets_by(line: &[u8], form: &[u8], letters: &[u8]) -> Frame {
     }
 }
 
+// A line that is no row has no form.
 fn request_by(w: usize, line: &[u8], form: &[u8]) -> Request {
-    if !lines::has_form(line, form) {
+    if form.len() == 0 {
         return Request::Bad;
     }
-    request_of(w, lines::numbers_of(line, form), line)
+    let v = lines::numbers_of(line, form);
+    if w < ON_BOARD {
+        return Request::OnBoard(on_board_of(w, v));
+    }
+    Request::Alone(alone_of(w - ON_BOARD, v))
 }
 
-// By the word's place in the table.
-fn request_of(w: usize, v: [u64; 8], line: &[u8]) -> Request {
+fn on_board_of(w: usize, v: [u64; 8]) -> OnBoard {
     match w {
-        0 => Request::Alone(Alone::Board(v[1], (v[2] % 4294967296) as u32)),
-        2 => Request::Alone(Alone::Lend(v[1] as usize, v[2] as usize, v[3] as usize)),
-        4 => Request::OnBoard(OnBoard::Network(v[1] as usize, (v[2] % 256) as u8)),
-        6 => Request::OnBoard(OnBoard::Switch((v[1] % 256) as u8)),
-        8 => Request::OnBoard(OnBoard::Link(v[1])),
-        10 => Request::OnBoard(OnBoard::Unlink(v[1])),
-        12 => Request::OnBoard(OnBoard::Forget(v[1] as usize, v[2])),
-        14 => Request::OnBoard(OnBoard::Open),
-        16 => Request::OnBoard(OnBoard::OpenAps(v[1])),
-        18 => Request::OnBoard(OnBoard::Seal),
-        20 => Request::OnBoard(OnBoard::SealAps(v[1], (v[2] % 256) as u8)),
-        22 => Request::Alone(Alone::Read(guard_of(v[1]))),
-        24 => Request::Alone(Alone::Tlv(guard_of(v[1]), (v[2] % 256) as u8)),
-        26 => write_of(v, line),
-        28 => Request::Alone(Alone::Hash),
-        30 => Request::Alone(Alone::KeyedHash),
-        32 => Request::OnBoard(OnBoard::State),
-        34 => Request::OnBoard(OnBoard::Heard(v[1] as usize)),
-        36 => Request::OnBoard(OnBoard::Links),
-        _ => Request::Bad,
+        0 => OnBoard::Network(v[1] as usize, (v[2] % 256) as u8),
+        1 => OnBoard::Switch((v[1] % 256) as u8),
+        2 => OnBoard::Link(v[1]),
+        3 => OnBoard::Unlink(v[1]),
+        4 => OnBoard::Forget(v[1] as usize, v[2]),
+        5 => OnBoard::Open,
+        6 => OnBoard::OpenAps(v[1]),
+        7 => OnBoard::Seal,
+        8 => OnBoard::SealAps(v[1], (v[2] % 256) as u8),
+        9 => OnBoard::State,
+        10 => OnBoard::Heard(v[1] as usize),
+        _ => OnBoard::Links,
     }
 }
 
-fn write_of(v: [u64; 8], line: &[u8]) -> Request {
-    let table = COMMANDS;
-    let command = text::which(&table, text::field(line, 2));
+fn alone_of(w: usize, v: [u64; 8]) -> Alone {
+    match w {
+        0 | 1 => Alone::Board(v[1], (v[2] % 4294967296) as u32),
+        2 => Alone::Lend(v[1] as usize, v[2] as usize, v[3] as usize),
+        3 => Alone::Read(guard_of(v[1])),
+        4 => Alone::Tlv(guard_of(v[1]), (v[2] % 256) as u8),
+        5 => Alone::Hash,
+        _ => Alone::KeyedHash,
+    }
+}
+
+fn write_by(w: usize, line: &[u8], form: &[u8]) -> Request {
     let ack = text::which(b"ack\tnoack", text::field(line, 1));
-    if ack > 1 || command % 2 != 0 {
+    if form.len() == 0 || ack > 1 {
         return Request::Bad;
     }
-    Request::OnBoard(OnBoard::Write(ack == 0, command_of(command, v)))
+    let command = command_of(w, lines::numbers_of(line, form));
+    Request::OnBoard(OnBoard::Write(ack == 0, command))
 }
 
 // The key of a line whose form has one.

@@ -8,7 +8,6 @@ use crate::desk::Reply;
 use crate::desk::reply_moved;
 use crate::desk::room_of;
 use crate::forms::COMMANDS;
-use crate::forms::form_place;
 use crate::sealing::written;
 use answers::Guard;
 use board::Board;
@@ -22,20 +21,19 @@ use lines::decimal;
 use lines::hex;
 use lines::word;
 
-// A command by its word's place in the table, and its numbers, each at its field's place in a `write`
-// line.
+// A command by its row, and its numbers, each at its field's place in a `write` line.
 struct Spelt {
-    w: usize,
+    w: u8,
     v: [u64; 8],
 }
 
-pub(crate) fn read(guard: Guard, f: Frame) -> Answer {
+pub(crate) fn read(guard: Guard, f: Frame, desk: Desk) -> Reply {
     let o = f.octets;
-    told(
-        commands::read_command(text::front(&o, f.n), guard),
-        f,
-        guard,
-    )
+    let reading = commands::read_command(text::front(&o, f.n), guard);
+    Reply {
+        answer: told(reading, f, guard),
+        desk,
+    }
 }
 
 fn told(reading: Reading, f: Frame, guard: Guard) -> Answer {
@@ -56,9 +54,10 @@ pub(crate) fn guard_of(t: u64) -> Guard {
 
 fn spelt_out(s: Spelt, f: &[u8], guard: Guard) -> Answer {
     let table = COMMANDS;
-    let form = text::field(&table, form_place(s.w));
+    let w = s.w as usize;
+    let form = text::field(&table, w * 2 + 1);
     let v = s.v;
-    let mut a = word(done(), text::field(&table, s.w));
+    let mut a = word(done(), text::field(&table, w * 2));
     for i in 3..7 {
         let next = with_field(a, octets::octet(form, i), v[i], f, guard);
         a = next;
@@ -80,9 +79,13 @@ fn with_field(a: Answer, kind: u8, x: u64, f: &[u8], guard: Guard) -> Answer {
     }
 }
 
-pub(crate) fn tlv(guard: Guard, tag: u8, f: Frame) -> Answer {
+pub(crate) fn tlv(guard: Guard, tag: u8, f: Frame, desk: Desk) -> Reply {
     let o = f.octets;
-    hex(done(), commands::value_of(text::front(&o, f.n), guard, tag))
+    let value = commands::value_of(text::front(&o, f.n), guard, tag);
+    Reply {
+        answer: hex(done(), value),
+        desk,
+    }
 }
 
 pub(crate) fn write(ack: bool, command: Command, key: Frame, rest: Frame, desk: Desk) -> Reply {
@@ -114,19 +117,19 @@ fn write_command(
     written(sent, out)
 }
 
-// The command of a `write` line, by its word's place in the table.
+// The command of a `write` line, by its row.
 pub(crate) fn command_of(w: usize, v: [u64; 8]) -> Command {
     match w {
-        0..=6 => Command::TransportKey(transported_of(w, v)),
-        8 => Command::UpdateDevice(v[3], (v[4] % 65536) as u16, (v[5] % 256) as u8),
-        10 => Command::RemoveDevice(v[3]),
-        12 => Command::RequestKey(Requested::Application(v[3])),
-        14 => Command::RequestKey(Requested::TrustCentre),
-        16 => Command::SwitchKey((v[3] % 256) as u8),
-        18 => Command::Tunnel(v[3]),
-        20 => Command::VerifyKey((v[3] % 256) as u8, v[4]),
-        22 => Command::ConfirmKey((v[3] % 256) as u8, (v[4] % 256) as u8, v[5]),
-        24 => Command::RelayDownstream,
+        0..=3 => Command::TransportKey(transported_of(w, v)),
+        4 => Command::UpdateDevice(v[3], (v[4] % 65536) as u16, (v[5] % 256) as u8),
+        5 => Command::RemoveDevice(v[3]),
+        6 => Command::RequestKey(Requested::Application(v[3])),
+        7 => Command::RequestKey(Requested::TrustCentre),
+        8 => Command::SwitchKey((v[3] % 256) as u8),
+        9 => Command::Tunnel(v[3]),
+        10 => Command::VerifyKey((v[3] % 256) as u8, v[4]),
+        11 => Command::ConfirmKey((v[3] % 256) as u8, (v[4] % 256) as u8, v[5]),
+        12 => Command::RelayDownstream,
         _ => Command::RelayUpstream,
     }
 }
@@ -134,8 +137,8 @@ pub(crate) fn command_of(w: usize, v: [u64; 8]) -> Command {
 fn transported_of(w: usize, v: [u64; 8]) -> Transported {
     match w {
         0 => Transported::Network((v[4] % 256) as u8, v[5], v[6]),
-        2 => Transported::TrustCentre(v[4], v[5]),
-        4 => Transported::ApplicationMaster(v[4], (v[5] % 256) as u8),
+        1 => Transported::TrustCentre(v[4], v[5]),
+        2 => Transported::ApplicationMaster(v[4], (v[5] % 256) as u8),
         _ => Transported::ApplicationLink(v[4], (v[5] % 256) as u8),
     }
 }
@@ -145,26 +148,26 @@ fn spelling(c: Command) -> Spelt {
     match c {
         Command::TransportKey(key) => match key {
             Transported::Network(q, d, s) => of(0, 0, q as u64, d, s),
-            Transported::TrustCentre(d, s) => of(2, 0, d, s, 0),
-            Transported::ApplicationMaster(p, i) => of(4, 0, p, i as u64, 0),
-            Transported::ApplicationLink(p, i) => of(6, 0, p, i as u64, 0),
+            Transported::TrustCentre(d, s) => of(1, 0, d, s, 0),
+            Transported::ApplicationMaster(p, i) => of(2, 0, p, i as u64, 0),
+            Transported::ApplicationLink(p, i) => of(3, 0, p, i as u64, 0),
         },
-        Command::UpdateDevice(d, s, t) => of(8, d, s as u64, t as u64, 0),
-        Command::RemoveDevice(t) => of(10, t, 0, 0, 0),
+        Command::UpdateDevice(d, s, t) => of(4, d, s as u64, t as u64, 0),
+        Command::RemoveDevice(t) => of(5, t, 0, 0, 0),
         Command::RequestKey(key) => match key {
-            Requested::Application(p) => of(12, p, 0, 0, 0),
-            Requested::TrustCentre => of(14, 0, 0, 0, 0),
+            Requested::Application(p) => of(6, p, 0, 0, 0),
+            Requested::TrustCentre => of(7, 0, 0, 0, 0),
         },
-        Command::SwitchKey(q) => of(16, q as u64, 0, 0, 0),
-        Command::Tunnel(d) => of(18, d, 0, 0, 0),
-        Command::VerifyKey(t, s) => of(20, t as u64, s, 0, 0),
-        Command::ConfirmKey(s, t, d) => of(22, s as u64, t as u64, d, 0),
-        Command::RelayDownstream => of(24, 0, 0, 0, 0),
-        Command::RelayUpstream => of(26, 0, 0, 0, 0),
+        Command::SwitchKey(q) => of(8, q as u64, 0, 0, 0),
+        Command::Tunnel(d) => of(9, d, 0, 0, 0),
+        Command::VerifyKey(t, s) => of(10, t as u64, s, 0, 0),
+        Command::ConfirmKey(s, t, d) => of(11, s as u64, t as u64, d, 0),
+        Command::RelayDownstream => of(12, 0, 0, 0, 0),
+        Command::RelayUpstream => of(13, 0, 0, 0, 0),
     }
 }
 
-fn of(w: usize, a: u64, b: u64, c: u64, d: u64) -> Spelt {
+fn of(w: u8, a: u64, b: u64, c: u64, d: u64) -> Spelt {
     Spelt {
         w,
         v: [0, 0, 0, a, b, c, d, 0],

@@ -1,5 +1,6 @@
 // A line's answer, by the request that it is.
 use crate::asked::Alone;
+use crate::asked::Asked;
 use crate::asked::Frame;
 use crate::asked::OnBoard;
 use crate::asked::Request;
@@ -19,7 +20,10 @@ pub(crate) fn reply_to(long: bool, line: &[u8], desk: Desk) -> Reply {
     if long {
         return reply_bad(desk);
     }
-    let asked = asked_of(line);
+    reply_asked(asked_of(line), desk)
+}
+
+fn reply_asked(asked: Asked, desk: Desk) -> Reply {
     let request = asked.request;
     let key = asked.key;
     let frame = asked.frame;
@@ -55,21 +59,9 @@ fn without_board(r: Alone, key: Frame, f: Frame, desk: Desk) -> Reply {
     match r {
         Alone::Board(own, counter) => making::make(own, counter, desk),
         Alone::Lend(room, rows, tops) => making::lend(room, rows, tops, desk),
-        Alone::Read(guard) => Reply {
-            answer: command_lines::read(guard, f),
-            desk,
-        },
-        Alone::Tlv(guard, tag) => Reply {
-            answer: command_lines::tlv(guard, tag, f),
-            desk,
-        },
-        Alone::Hash => Reply {
-            answer: hashes::hash(f),
-            desk,
-        },
-        Alone::KeyedHash => Reply {
-            answer: hashes::keyed_hash(key, f),
-            desk,
-        },
+        Alone::Read(guard) => command_lines::read(guard, f, desk),
+        Alone::Tlv(guard, tag) => command_lines::tlv(guard, tag, f, desk),
+        Alone::Hash => hashes::hash(f, desk),
+        Alone::KeyedHash => hashes::keyed_hash(key, f, desk),
     }
 }

@@ -21,6 +21,7 @@ pub use forms::has_form;
 pub use forms::kind_of;
 pub use forms::numbers_of;
 pub use forms::octets_by;
+pub use forms::row_of;
 pub use forms::value_of;
 pub use reading::Line;
 pub use reading::Stop;

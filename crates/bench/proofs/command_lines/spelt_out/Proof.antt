@@ -4,16 +4,22 @@ use Rattle.bench.proofs.command_lines.spelt_out.Statement.{statement}
 use Rattle.bench.proofs.command_lines.spelt_out.Tie as tie
 
 abbrev Inv-loop : tie.InvT-loop
-Inv-loop f guard form v a₀ i₀ a i = (3 ≤ i) × (i ≤ 7)
+Inv-loop f guard w form v a₀ i₀ a i = (3 ≤ i) × (i ≤ 7)
 
 abbrev μ-loop : tie.MeasureT-loop
-μ-loop f guard form v a₀ i₀ a i = 7 - i
+μ-loop f guard w form v a₀ i₀ a i = 7 - i
+
+cast-w : tie.Need-cast-w Inv-loop μ-loop
+cast-w c = search needs
 
 slice-aggregate-field : tie.Need-slice-aggregate-field Inv-loop μ-loop
 slice-aggregate-field c = search needs
 
-form-place-requires : tie.Need-form-place-requires Inv-loop μ-loop
-form-place-requires c κs = search needs
+mul-field : tie.Need-mul-field Inv-loop μ-loop
+mul-field c = search needs
+
+add-field : tie.Need-add-field Inv-loop μ-loop
+add-field c = search needs
 
 field-requires : tie.Need-field-requires Inv-loop μ-loop
 field-requires c κs = search needs
@@ -23,6 +29,9 @@ done-requires c κs = search needs
 
 slice-aggregate-field-2 : tie.Need-slice-aggregate-field-2 Inv-loop μ-loop
 slice-aggregate-field-2 c = search needs
+
+mul-field-2 : tie.Need-mul-field-2 Inv-loop μ-loop
+mul-field-2 c = search needs
 
 field-requires-2 : tie.Need-field-requires-2 Inv-loop μ-loop
 field-requires-2 c κs = search needs
@@ -63,11 +72,14 @@ spelt-out-spec =
     (tie.spec
     Inv-loop
     μ-loop
+    cast-w
     slice-aggregate-field
-    form-place-requires
+    mul-field
+    add-field
     field-requires
     done-requires
     slice-aggregate-field-2
+    mul-field-2
     field-requires-2
     word-requires
     loop-holds
