@@ -1,11 +1,13 @@
 // APS commands, read and written.
 use crate::answer::done;
 use crate::answer::refused;
+use crate::asked::Frame;
+use crate::desk::Desk;
 use crate::desk::Moved;
+use crate::desk::Reply;
+use crate::desk::reply_moved;
 use crate::desk::room_of;
-use crate::forms::command_form;
-use crate::forms::command_words;
-use crate::read::Frame;
+use crate::forms::COMMANDS;
 use crate::sealing::written;
 use answers::Guard;
 use board::Board;
@@ -19,20 +21,19 @@ use lines::decimal;
 use lines::hex;
 use lines::word;
 
-// A command by its word's number, and its numbers, each at its field's place in a `write` line.
+// A command by its row, and its numbers, each at its field's place in a `write` line.
 struct Spelt {
-    w: usize,
-    v: [u64; 7],
+    w: u8,
+    v: [u64; 8],
 }
 
-pub(crate) fn read(t: u64, f: Frame) -> Answer {
+pub(crate) fn read(guard: Guard, f: Frame, desk: Desk) -> Reply {
     let o = f.octets;
-    let guard = guard_of(t);
-    told(
-        commands::read_command(text::front(&o, f.n), guard),
-        f,
-        guard,
-    )
+    let reading = commands::read_command(text::front(&o, f.n), guard);
+    Reply {
+        answer: told(reading, f, guard),
+        desk,
+    }
 }
 
 fn told(reading: Reading, f: Frame, guard: Guard) -> Answer {
@@ -43,8 +44,8 @@ fn told(reading: Reading, f: Frame, guard: Guard) -> Answer {
     }
 }
 
-// 256 stands for none.
-fn guard_of(t: u64) -> Guard {
+// The value 256 is that of `none`.
+pub(crate) fn guard_of(t: u64) -> Guard {
     if t > 255 {
         return Guard::Clear;
     }
@@ -52,21 +53,16 @@ fn guard_of(t: u64) -> Guard {
 }
 
 fn spelt_out(s: Spelt, f: &[u8], guard: Guard) -> Answer {
-    let form = command_form(s.w);
-    let kinds = form.kinds;
+    let table = COMMANDS;
+    let w = s.w as usize;
+    let form = text::field(&table, w * 2 + 1);
     let v = s.v;
-    let mut a = named(s.w);
+    let mut a = word(done(), text::field(&table, w * 2));
     for i in 3..7 {
-        let next = with_field(a, kinds[i], v[i], f, guard);
+        let next = with_field(a, octets::octet(form, i), v[i], f, guard);
         a = next;
     }
     a
-}
-
-fn named(w: usize) -> Answer {
-    let words = command_words();
-    let o = words.octets;
-    word(done(), text::field(text::front(&o, words.n), w))
 }
 
 // A field by the letter of its kind (see `forms`).
@@ -83,21 +79,37 @@ fn with_field(a: Answer, kind: u8, x: u64, f: &[u8], guard: Guard) -> Answer {
     }
 }
 
-pub(crate) fn tlv(v: [u64; 7], f: Frame) -> Answer {
+pub(crate) fn tlv(guard: Guard, tag: u8, f: Frame, desk: Desk) -> Reply {
     let o = f.octets;
-    let value = commands::value_of(text::front(&o, f.n), guard_of(v[1]), (v[2] % 256) as u8);
-    hex(done(), value)
+    let value = commands::value_of(text::front(&o, f.n), guard, tag);
+    Reply {
+        answer: hex(done(), value),
+        desk,
+    }
 }
 
-pub(crate) fn write(v: [u64; 7], key: Frame, rest: Frame, b: Board, lent: usize) -> Moved {
+pub(crate) fn write(ack: bool, command: Command, key: Frame, rest: Frame, desk: Desk) -> Reply {
+    let b = desk.board;
+    let lent = desk.lent;
+    reply_moved(write_command(ack, command, key, rest, b, lent.room), desk)
+}
+
+fn write_command(
+    ack: bool,
+    command: Command,
+    key: Frame,
+    rest: Frame,
+    b: Board,
+    lent: usize,
+) -> Moved {
     let k = key.octets;
     let r = rest.octets;
     let mut out = [0u8; 256];
     let room = room_of(lent, &out);
     let sent = commands::write_command(
         b,
-        v[1] == 0,
-        command_of(v),
+        ack,
+        command,
         text::front(&k, key.n),
         text::front(&r, rest.n),
         &mut out[..room],
@@ -105,11 +117,10 @@ pub(crate) fn write(v: [u64; 7], key: Frame, rest: Frame, b: Board, lent: usize)
     written(sent, out)
 }
 
-// The command of a `write` line, by its form.
-fn command_of(v: [u64; 7]) -> Command {
-    let w = v[2];
+// The command of a `write` line, by its row.
+pub(crate) fn command_of(w: usize, v: [u64; 8]) -> Command {
     match w {
-        0..=3 => Command::TransportKey(transported_of(v)),
+        0..=3 => Command::TransportKey(transported_of(w, v)),
         4 => Command::UpdateDevice(v[3], (v[4] % 65536) as u16, (v[5] % 256) as u8),
         5 => Command::RemoveDevice(v[3]),
         6 => Command::RequestKey(Requested::Application(v[3])),
@@ -123,8 +134,7 @@ fn command_of(v: [u64; 7]) -> Command {
     }
 }
 
-fn transported_of(v: [u64; 7]) -> Transported {
-    let w = v[2];
+fn transported_of(w: usize, v: [u64; 8]) -> Transported {
     match w {
         0 => Transported::Network((v[4] % 256) as u8, v[5], v[6]),
         1 => Transported::TrustCentre(v[4], v[5]),
@@ -157,9 +167,9 @@ fn spelling(c: Command) -> Spelt {
     }
 }
 
-fn of(w: usize, a: u64, b: u64, c: u64, d: u64) -> Spelt {
+fn of(w: u8, a: u64, b: u64, c: u64, d: u64) -> Spelt {
     Spelt {
         w,
-        v: [0, 0, 0, a, b, c, d],
+        v: [0, 0, 0, a, b, c, d, 0],
     }
 }

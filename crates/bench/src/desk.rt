@@ -95,6 +95,14 @@ pub(crate) fn reply_held(held: Held, lent: Lent) -> Reply {
     }
 }
 
+pub(crate) fn reply_moved(moved: Moved, desk: Desk) -> Reply {
+    let answer = moved.answer;
+    let b = moved.board;
+    let mut next = desk;
+    next.board = b;
+    Reply { answer, desk: next }
+}
+
 // The board that a request leaves is taken as it is, refused or not: the library says what it is.
 pub(crate) fn after(done: After) -> Moved {
     let outcome = done.answer;

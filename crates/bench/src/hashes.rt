@@ -1,20 +1,29 @@
 // The hash and the keyed hash, which need no board.
 use crate::answer::done;
 use crate::answer::refused;
-use crate::read::Frame;
+use crate::asked::Frame;
+use crate::asked::sixteen;
+use crate::desk::Desk;
+use crate::desk::Reply;
 use answers::Refusal;
 use cipher::Hashed;
 use lines::Answer;
 use lines::hex;
 
-pub(crate) fn hash(f: Frame) -> Answer {
+pub(crate) fn hash(f: Frame, desk: Desk) -> Reply {
     let o = f.octets;
-    hashed(cipher::hash(text::front(&o, f.n)))
+    Reply {
+        answer: hashed(cipher::hash(text::front(&o, f.n))),
+        desk,
+    }
 }
 
-pub(crate) fn keyed_hash(key: [u8; 16], f: Frame) -> Answer {
+pub(crate) fn keyed_hash(key: Frame, f: Frame, desk: Desk) -> Reply {
     let o = f.octets;
-    hashed(cipher::keyed_hash(key, text::front(&o, f.n)))
+    Reply {
+        answer: hashed(cipher::keyed_hash(sixteen(key), text::front(&o, f.n))),
+        desk,
+    }
 }
 
 // The only fault that hashing has is an input that is too long.

@@ -4,15 +4,15 @@
 // for each answer: it reads what is there and writes an answer as soon as its line has ended. What
 // it answers is the proved library's; it adds nothing to a verdict.
 mod answer;
+mod asked;
 mod command_lines;
 mod desk;
 mod forms;
 mod hashes;
 mod input;
-mod lists;
+mod keys;
 mod making;
 mod opening;
-mod read;
 mod requests;
 mod sealing;
 mod show;

@@ -5,6 +5,7 @@ use crate::desk::Desk;
 use crate::desk::Lent;
 use crate::desk::Reply;
 use crate::desk::fresh_lists;
+use crate::desk::reply_bad;
 use answers::Outcome;
 use board::Board;
 use lines::Answer;
@@ -16,8 +17,8 @@ struct Start {
     board: Board,
 }
 
-pub(crate) fn make(v: [u64; 7], desk: Desk) -> Reply {
-    let start = start_of(v);
+pub(crate) fn make(own: u64, counter: u32, desk: Desk) -> Reply {
+    let start = start_of(own, counter);
     let answer = start.answer;
     Reply {
         answer,
@@ -25,11 +26,11 @@ pub(crate) fn make(v: [u64; 7], desk: Desk) -> Reply {
     }
 }
 
-fn start_of(v: [u64; 7]) -> Start {
-    let first = board::make(v[1]);
+fn start_of(own: u64, counter: u32) -> Start {
+    let first = board::make(own);
     let outcome = first.answer;
     let mut b = first.board;
-    b.outgoing = (v[2] % 4294967296) as u32;
+    b.outgoing = counter;
     Start {
         made: is_done(outcome),
         answer: told(outcome),
@@ -60,20 +61,16 @@ fn started(start: Start, desk: Desk) -> Desk {
     }
 }
 
-pub(crate) fn lend(v: [u64; 7], desk: Desk) -> Reply {
-    let lent = lent_of(v);
+// No more is lent than there is.
+pub(crate) fn lend(room: usize, rows: usize, tops: usize, desk: Desk) -> Reply {
+    if room > 256 || rows > 1024 || tops > 1024 {
+        return reply_bad(desk);
+    }
+    let lent = Lent { room, rows, tops };
     let mut next = desk;
     next.lent = lent;
     Reply {
         answer: done(),
         desk: next,
-    }
-}
-
-fn lent_of(v: [u64; 7]) -> Lent {
-    Lent {
-        room: v[1] as usize,
-        rows: v[2] as usize,
-        tops: v[3] as usize,
     }
 }

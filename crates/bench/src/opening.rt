@@ -1,14 +1,18 @@
 // Frames opened, at both layers.
 use crate::answer::done;
 use crate::answer::refused;
+use crate::asked::Frame;
+use crate::desk::Desk;
 use crate::desk::Held;
 use crate::desk::Lent;
 use crate::desk::Lists;
 use crate::desk::Moved;
+use crate::desk::Reply;
 use crate::desk::addresses_of;
 use crate::desk::floors_of;
+use crate::desk::reply_held;
+use crate::desk::reply_moved;
 use crate::desk::room_of;
-use crate::read::Frame;
 use answers::Guard;
 use answers::Opened;
 use answers::Refusal;
@@ -20,7 +24,14 @@ use lines::decimal;
 use lines::hex;
 use lines::word;
 
-pub(crate) fn open(f: Frame, b: Board, lists: Lists, lent: Lent) -> Held {
+pub(crate) fn open(f: Frame, desk: Desk) -> Reply {
+    let b = desk.board;
+    let lists = desk.lists;
+    let lent = desk.lent;
+    reply_held(open_network(f, b, lists, lent), lent)
+}
+
+fn open_network(f: Frame, b: Board, lists: Lists, lent: Lent) -> Held {
     let mut addrs = lists.addrs;
     let mut floors = lists.floors;
     let mut out = [0u8; 256];
@@ -59,7 +70,13 @@ fn looked_network(why: Refusal, b: Board, f: Frame) -> Answer {
     looked(a, network::look_frame(b, text::front(&o, f.n)))
 }
 
-pub(crate) fn open_aps(given: u64, f: Frame, b: Board, lent: usize) -> Moved {
+pub(crate) fn open_aps(given: u64, f: Frame, desk: Desk) -> Reply {
+    let b = desk.board;
+    let lent = desk.lent;
+    reply_moved(opened_aps(given, f, b, lent.room), desk)
+}
+
+fn opened_aps(given: u64, f: Frame, b: Board, lent: usize) -> Moved {
     let o = f.octets;
     let mut out = [0u8; 256];
     let room = room_of(lent, &out);

@@ -1,6 +1,9 @@
 // What a board holds.
 use crate::answer::done;
+use crate::desk::Desk;
 use crate::desk::Lists;
+use crate::desk::Reply;
+use crate::desk::reply_bad;
 use board::Active;
 use board::Board;
 use board::Link;
@@ -9,7 +12,15 @@ use lines::address;
 use lines::decimal;
 use lines::word;
 
-pub(crate) fn state(b: Board) -> Answer {
+pub(crate) fn state(desk: Desk) -> Reply {
+    let b = desk.board;
+    Reply {
+        answer: counters(b),
+        desk,
+    }
+}
+
+fn counters(b: Board) -> Answer {
     let outgoing = decimal(done(), b.outgoing as u64);
     let mark = b.active;
     active(decimal(outgoing, b.aps as u64), mark)
@@ -22,11 +33,19 @@ fn active(a: Answer, mark: Active) -> Answer {
     }
 }
 
-pub(crate) fn links(b: Board) -> Answer {
-    let entries = b.links;
+pub(crate) fn links(desk: Desk) -> Reply {
+    let b = desk.board;
+    Reply {
+        answer: entries(b),
+        desk,
+    }
+}
+
+fn entries(b: Board) -> Answer {
+    let links = b.links;
     let mut a = done();
     for i in 0..8 {
-        let l = entries[i];
+        let l = links[i];
         a = link(a, i, l);
     }
     a
@@ -40,8 +59,20 @@ fn link(a: Answer, i: usize, l: Link) -> Answer {
     decimal(address(entry, l.partner), l.floor as u64)
 }
 
+// There are two slots, 0 and 1.
+pub(crate) fn heard(slot: usize, desk: Desk) -> Reply {
+    if slot > 1 {
+        return reply_bad(desk);
+    }
+    let lists = desk.lists;
+    Reply {
+        answer: rows(slot, lists),
+        desk,
+    }
+}
+
 // The stored rows, lent or not.
-pub(crate) fn heard(slot: usize, lists: Lists) -> Answer {
+fn rows(slot: usize, lists: Lists) -> Answer {
     let addrs = lists.addrs;
     let floors = lists.floors;
     let mut a = done();

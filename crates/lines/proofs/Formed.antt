@@ -2,17 +2,19 @@
 -- Assumes nothing.
 use mathlib.Core.Path.{_≡_, refl}
 use mathlib.Core.Bool.{Bool, true, false}
-use mathlib.Core.List.{List}
+use mathlib.Core.List.{List, [], _∷_}
 use mathlib.Core.Logic.{⊎-elim}
-use Prim.Native.Nat.{ℕ, zero, suc, _+_, _≤_, _<_}
+use Prim.Native.Nat.{ℕ, zero, suc, _+_, _-_, _/_, _≤_, _<_}
 use native.Mathlib.Nat.{le-of-suc-le-suc, not-suc-le-zero, eq-or-lt-of-le}
 use native.Mathlib.Numerals.{add-one}
+use native.Mathlib.Omega.{arith}
 use lib.Dec.{eqb}
 use lib.ListN.{length, getD, drop, drop-of-length-le}
-use Rattle.octets.specs.Choice.{both}
+use Rattle.octets.specs.Choice.{if_then_else_, both}
+use Rattle.text.specs.Fields.{tabs, fields}
 use Rattle.text.proofs.Reading.{one}
 use Rattle.lines.specs.Kinds.{good}
-use Rattle.lines.specs.Forms.{valueAt, firstGood, among, placeOf}
+use Rattle.lines.specs.Forms.{valueAt, firstGood, isRow, rowFrom, among, placeOf}
 
 both-false : (t : Bool) → both t false ≡ false
 both-false true = refl
@@ -34,6 +36,37 @@ module _ (l f : List ℕ) where
   pub one-more : (i : ℕ) → firstGood l f i ≡ true → good (valueAt l f i) ≡ true → firstGood l f (i + 1) ≡ true
   unfolding firstGood
   one-more i a b = rw (add-one i, a, b)
+
+-- no more tabs than octets
+pub tabs-fit : (l : List ℕ) → tabs l ≤ length l
+unfolding tabs
+tabs-fit [] = omega arith
+tabs-fit (x ∷ l) = go (eqb x 9) (tabs-fit l)
+  where
+    go : (t : Bool) → tabs l ≤ length l → (if t then suc (tabs l) else tabs l) ≤ suc (length l)
+    go true h = omega arith
+    go false h = omega arith
+
+-- no more rows than octets
+pub rows-fit : (t : List ℕ) → fields t / 2 ≤ length t
+unfolding fields
+rows-fit t = omega (arith, tabs-fit t)
+
+module _ (t l : List ℕ) (k r n : ℕ) (h : r < n) where
+  left : n - r ≡ suc (n - (r + 1))
+  left = omega arith
+
+  pub row-is : isRow t l k r ≡ true → rowFrom t l k r (n - r) ≡ r
+  unfolding rowFrom
+  row-is e = rw (left, e)
+
+  pub row-more : isRow t l k r ≡ false → rowFrom t l k r (n - r) ≡ rowFrom t l k (r + 1) (n - (r + 1))
+  unfolding rowFrom
+  row-more e = rw (left, e, add-one r)
+
+pub row-none : (t l : List ℕ) (k r n : ℕ) → n ≤ r → rowFrom t l k r (n - r) ≡ r
+unfolding rowFrom
+row-none t l k r n h = let z : n - r ≡ 0 = omega arith in rw z
 
 module _ (c : ℕ) (l : List ℕ) (i : ℕ) where
   pub among-is : i < length l → eqb (getD l i 0) c ≡ true → among c (drop i l) ≡ true

@@ -1,10 +1,12 @@
 // The fields of a line, judged and read by its form: a letter for each field, a dot for the line's word.
 ghost use mathlib.Core.Path.{_≡_};
+ghost use Prim.Native.Nat.{_+_, _*_, _^_, _<_, _≤_};
+ghost use lib.ListN.{length};
 ghost use Rattle.octets.specs.Lists.{at, tab};
 ghost use Rattle.text.specs.Fields.{fieldAt};
 ghost use Rattle.text.specs.Hex.{gave, unhexed};
 ghost use Rattle.lines.specs.Kinds.{kindOf, within, valueOf, good, number};
-ghost use Rattle.lines.specs.Forms.{valueAt, hasForm, numberAt, among, placeOf};
+ghost use Rattle.lines.specs.Forms.{valueAt, hasForm, isRow, rowOf, numberAt, among, placeOf};
 ghost use Rattle.lines.specs.declared.forms.Kind.the-variants as kinds;
 use text::Address;
 use text::Number;
@@ -130,6 +132,30 @@ pub fn has_form(line: &[u8], form: &[u8]) -> bool
         }
     }
     true
+}
+
+// The row of a table that the line is, by its number. A row is two fields of the table: a word, which
+// the line has in field k, and the form that it then has. How many rows there are where it is none.
+pub fn row_of(table: &[u8], line: &[u8], k: usize) -> usize
+    ensures { λ r. ⌜ (r ≡ rowOf (now (table .entry)) (now (line .entry)) k) × (r ≤ length (now (table .entry))) ⌝ }
+{
+    let n = text::count(table) / 2;
+    for r in 0..n {
+        if is_row(table, r, line, k) {
+            return r;
+        }
+    }
+    n
+}
+
+fn is_row(table: &[u8], r: usize, line: &[u8], k: usize) -> bool
+    requires { ⌜ r * 2 + 1 < 2 ^ 64 ⌝ }
+    ensures { λ t. ⌜ t ≡ isRow (now (table .entry)) (now (line .entry)) k r ⌝ }
+{
+    if !octets::same(text::field(table, r * 2), text::field(line, k)) {
+        return false;
+    }
+    has_form(line, text::field(table, r * 2 + 1))
 }
 
 // The numbers of the first eight fields, each at its field's place; 0 for a bad field, and for one

@@ -23,6 +23,7 @@ pub use forms::has_form;
 pub use forms::kind_of;
 pub use forms::numbers_of;
 pub use forms::octets_by;
+pub use forms::row_of;
 pub use forms::value_of;
 pub use reader::Reader;
 pub use reader::fresh_reader;

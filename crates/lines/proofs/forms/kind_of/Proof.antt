@@ -58,7 +58,22 @@ returns-13 c = simp (c .match .keys13)
 
 returns-14 : tie.Need-returns-14
 unfolding kindOf
-returns-14 c = simp (ne-eqb _ _ (c .match .rest .1), ne-eqb _ _ (c .match .rest .0 .1), ne-eqb _ _ (c .match .rest .0 .0 .1), ne-eqb _ _ (c .match .rest .0 .0 .0 .1), ne-eqb _ _ (c .match .rest .0 .0 .0 .0 .1), ne-eqb _ _ (c .match .rest .0 .0 .0 .0 .0 .1), ne-eqb _ _ (c .match .rest .0 .0 .0 .0 .0 .0 .1), ne-eqb _ _ (c .match .rest .0 .0 .0 .0 .0 .0 .0 .1), ne-eqb _ _ (c .match .rest .0 .0 .0 .0 .0 .0 .0 .0 .1), ne-eqb _ _ (c .match .rest .0 .0 .0 .0 .0 .0 .0 .0 .0 .1), ne-eqb _ _ (c .match .rest .0 .0 .0 .0 .0 .0 .0 .0 .0 .0 .1), ne-eqb _ _ (c .match .rest .0 .0 .0 .0 .0 .0 .0 .0 .0 .0 .0 .1), ne-eqb _ _ (c .match .rest .0 .0 .0 .0 .0 .0 .0 .0 .0 .0 .0 .0 .1))
+returns-14 c =
+    simp (
+      ne-eqb _ _ (c .match .rest .1),
+      ne-eqb _ _ (c .match .rest .0 .1),
+      ne-eqb _ _ (c .match .rest .0 .0 .1),
+      ne-eqb _ _ (c .match .rest .0 .0 .0 .1),
+      ne-eqb _ _ (c .match .rest .0 .0 .0 .0 .1),
+      ne-eqb _ _ (c .match .rest .0 .0 .0 .0 .0 .1),
+      ne-eqb _ _ (c .match .rest .0 .0 .0 .0 .0 .0 .1),
+      ne-eqb _ _ (c .match .rest .0 .0 .0 .0 .0 .0 .0 .1),
+      ne-eqb _ _ (c .match .rest .0 .0 .0 .0 .0 .0 .0 .0 .1),
+      ne-eqb _ _ (c .match .rest .0 .0 .0 .0 .0 .0 .0 .0 .0 .1),
+      ne-eqb _ _ (c .match .rest .0 .0 .0 .0 .0 .0 .0 .0 .0 .0 .1),
+      ne-eqb _ _ (c .match .rest .0 .0 .0 .0 .0 .0 .0 .0 .0 .0 .0 .1),
+      ne-eqb _ _ (c .match .rest .0 .0 .0 .0 .0 .0 .0 .0 .0 .0 .0 .0 .1),
+    )
 
 pub kind-of-spec : {M : Type 1} → statement M
 kind-of-spec =

@@ -1,7 +1,7 @@
 use Prim.Native.Nat.{_≤_, _-_}
 use borrow.Author.Needs.{needs}
-use Rattle.bench.proofs.show.heard.Statement.{statement}
-use Rattle.bench.proofs.show.heard.Tie as tie
+use Rattle.bench.proofs.show.rows.Statement.{statement}
+use Rattle.bench.proofs.show.rows.Tie as tie
 
 abbrev Inv-loop : tie.InvT-loop
 Inv-loop slot addrs floors a₀ r₀ a r = r ≤ 64
@@ -42,8 +42,8 @@ loop-again c = search needs
 returns : tie.Need-returns Inv-loop μ-loop
 returns c = search needs
 
-pub heard-spec : {M : Type 1} → statement M
-heard-spec =
+pub rows-spec : {M : Type 1} → statement M
+rows-spec =
     tie.close
     (tie.spec
     Inv-loop

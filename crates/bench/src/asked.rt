@@ -1,0 +1,146 @@
+// Which request a line is: made once, from its word and its fields.
+use crate::command_lines::command_of;
+use crate::command_lines::guard_of;
+use crate::forms::COMMANDS;
+use crate::forms::ON_BOARD;
+use crate::forms::REQUESTS;
+use answers::Guard;
+use commands::Command;
+use text::Octets;
+
+// A line that is none, one that asks for a board, and one that does not.
+pub enum Request {
+    Bad,
+    OnBoard(OnBoard),
+    Alone(Alone),
+}
+
+// The numbers of a request stand in its case; its octets stand beside it, in `Asked`.
+pub enum OnBoard {
+    Network(usize, u8),
+    Switch(u8),
+    Link(u64),
+    Unlink(u64),
+    Forget(usize, u64),
+    Open,
+    OpenAps(u64),
+    Seal,
+    SealAps(u64, u8),
+    State,
+    Heard(usize),
+    Links,
+    Write(bool, Command),
+}
+
+pub enum Alone {
+    Board(u64, u32),
+    Lend(usize, usize, usize),
+    Read(Guard),
+    Tlv(Guard, u8),
+    Hash,
+    KeyedHash,
+}
+
+// The first n octets.
+pub struct Frame {
+    pub n: usize,
+    pub octets: [u8; 256],
+}
+
+// A request, its key or hash, and its other octets; none where it has none.
+pub struct Asked {
+    pub request: Request,
+    pub key: Frame,
+    pub frame: Frame,
+}
+
+pub(crate) fn asked_of(line: &[u8]) -> Asked {
+    if octets::same(text::field(line, 0), b"write") {
+        return asked_write(line);
+    }
+    let table = REQUESTS;
+    let w = lines::row_of(&table, line, 0);
+    let form = text::field(&table, w * 2 + 1);
+    asked_by(request_by(w, line, form), line, form)
+}
+
+fn asked_write(line: &[u8]) -> Asked {
+    let table = COMMANDS;
+    let w = lines::row_of(&table, line, 2);
+    let form = text::field(&table, w * 2 + 1);
+    asked_by(write_by(w, line, form), line, form)
+}
+
+fn asked_by(request: Request, line: &[u8], form: &[u8]) -> Asked {
+    Asked {
+        request,
+        key: octets_by(line, form, b"Kkh"),
+        frame: octets_by(line, form, b"Fti"),
+    }
+}
+
+fn octets_by(line: &[u8], form: &[u8], letters: &[u8]) -> Frame {
+    let mut octets = [0u8; 256];
+    let read = lines::octets_by(line, form, letters, &mut octets);
+    match read {
+        Octets::Are(n) => Frame { n, octets },
+        Octets::Bad => Frame { n: 0, octets },
+    }
+}
+
+// A line that is no row has no form.
+fn request_by(w: usize, line: &[u8], form: &[u8]) -> Request {
+    if form.len() == 0 {
+        return Request::Bad;
+    }
+    let v = lines::numbers_of(line, form);
+    if w < ON_BOARD {
+        return Request::OnBoard(on_board_of(w, v));
+    }
+    Request::Alone(alone_of(w - ON_BOARD, v))
+}
+
+fn on_board_of(w: usize, v: [u64; 8]) -> OnBoard {
+    match w {
+        0 => OnBoard::Network(v[1] as usize, (v[2] % 256) as u8),
+        1 => OnBoard::Switch((v[1] % 256) as u8),
+        2 => OnBoard::Link(v[1]),
+        3 => OnBoard::Unlink(v[1]),
+        4 => OnBoard::Forget(v[1] as usize, v[2]),
+        5 => OnBoard::Open,
+        6 => OnBoard::OpenAps(v[1]),
+        7 => OnBoard::Seal,
+        8 => OnBoard::SealAps(v[1], (v[2] % 256) as u8),
+        9 => OnBoard::State,
+        10 => OnBoard::Heard(v[1] as usize),
+        _ => OnBoard::Links,
+    }
+}
+
+fn alone_of(w: usize, v: [u64; 8]) -> Alone {
+    match w {
+        0 | 1 => Alone::Board(v[1], (v[2] % 4294967296) as u32),
+        2 => Alone::Lend(v[1] as usize, v[2] as usize, v[3] as usize),
+        3 => Alone::Read(guard_of(v[1])),
+        4 => Alone::Tlv(guard_of(v[1]), (v[2] % 256) as u8),
+        5 => Alone::Hash,
+        _ => Alone::KeyedHash,
+    }
+}
+
+fn write_by(w: usize, line: &[u8], form: &[u8]) -> Request {
+    let ack = text::which(b"ack\tnoack", text::field(line, 1));
+    if form.len() == 0 || ack > 1 {
+        return Request::Bad;
+    }
+    let command = command_of(w, lines::numbers_of(line, form));
+    Request::OnBoard(OnBoard::Write(ack == 0, command))
+}
+
+// The key of a line whose form has one.
+pub(crate) fn sixteen(key: Frame) -> [u8; 16] {
+    let o = key.octets;
+    let mut k = [0u8; 16];
+    text::put(&mut k, 0, text::front(&o, 16));
+    k
+}
