@@ -1,26 +1,11 @@
 // Answers in the words of the bench language.
 use answers::Outcome;
-use answers::Refusal;
 use lines::Answer;
-use lines::decimal;
 use lines::first;
-use lines::word;
+use lines::refused;
 
 pub(crate) fn done() -> Answer {
     first(b"ok")
-}
-
-// The words stand in the order of the refusals' numbers, which start at 1.
-pub(crate) fn refused(why: Refusal) -> Answer {
-    let n = answers::number(why);
-    let a = decimal(first(b"refused"), n as u64);
-    word(
-        a,
-        text::field(
-            b"\troom\tlong\tshort\tform\tsecurity\tnokey\ttop\tstale\tforged\tfull\tcommand\tprotection\tabsent\targument",
-            n as usize,
-        ),
-    )
 }
 
 pub(crate) fn told(outcome: Outcome) -> Answer {

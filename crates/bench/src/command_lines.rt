@@ -1,6 +1,5 @@
 // APS commands, read and written.
 use crate::answer::done;
-use crate::answer::refused;
 use crate::asked::Frame;
 use crate::desk::Desk;
 use crate::desk::Moved;
@@ -8,17 +7,19 @@ use crate::desk::Reply;
 use crate::desk::reply_moved;
 use crate::desk::room_of;
 use crate::forms::COMMANDS;
-use crate::sealing::written;
 use answers::Guard;
+use answers::Written;
 use board::Board;
 use commands::Command;
 use commands::Reading;
 use commands::Requested;
 use commands::Transported;
+use commands::Wrote;
 use lines::Answer;
 use lines::address;
 use lines::decimal;
 use lines::hex;
+use lines::refused;
 use lines::word;
 
 // A command by its row, and its numbers, each at its field's place in a `write` line.
@@ -106,7 +107,7 @@ fn write_command(
     let r = rest.octets;
     let mut out = [0u8; 256];
     let room = room_of(lent, &out);
-    let sent = commands::write_command(
+    let wrote = commands::write_command(
         b,
         ack,
         command,
@@ -114,7 +115,24 @@ fn write_command(
         text::front(&r, rest.n),
         &mut out[..room],
     );
-    written(sent, out)
+    written(wrote, out)
+}
+
+// The frame that the writer laid at the start of the output.
+fn written(wrote: Wrote, out: [u8; 256]) -> Moved {
+    let found = wrote.answer;
+    let b = wrote.board;
+    Moved {
+        answer: laid(found, out),
+        board: b,
+    }
+}
+
+fn laid(found: Written, out: [u8; 256]) -> Answer {
+    match found {
+        Written::Frame(n) => hex(done(), text::front(&out, n)),
+        Written::Refused(why) => refused(why),
+    }
 }
 
 // The command of a `write` line, by its row.

@@ -1,6 +1,5 @@
 // The hash and the keyed hash, which need no board.
 use crate::answer::done;
-use crate::answer::refused;
 use crate::asked::Frame;
 use crate::asked::sixteen;
 use crate::desk::Desk;
@@ -9,6 +8,7 @@ use answers::Refusal;
 use cipher::Hashed;
 use lines::Answer;
 use lines::hex;
+use lines::refused;
 
 pub(crate) fn hash(f: Frame, desk: Desk) -> Reply {
     let o = f.octets;

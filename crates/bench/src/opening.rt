@@ -1,6 +1,5 @@
 // Frames opened, at both layers.
 use crate::answer::done;
-use crate::answer::refused;
 use crate::asked::Frame;
 use crate::desk::Desk;
 use crate::desk::Held;
@@ -16,12 +15,13 @@ use crate::desk::room_of;
 use answers::Guard;
 use answers::Opened;
 use answers::Refusal;
-use aps::After;
+use aps::Received;
 use board::Board;
 use lines::Answer;
 use lines::address;
 use lines::decimal;
 use lines::hex;
+use lines::refused;
 use lines::word;
 
 pub(crate) fn open(f: Frame, desk: Desk) -> Reply {
@@ -80,14 +80,14 @@ fn opened_aps(given: u64, f: Frame, b: Board, lent: usize) -> Moved {
     let o = f.octets;
     let mut out = [0u8; 256];
     let room = room_of(lent, &out);
-    let after = aps::open_frame(b, text::front(&o, f.n), given, &mut out[..room]);
-    after_aps(after, out, f, given)
+    let received = aps::open_frame(b, text::front(&o, f.n), given, &mut out[..room]);
+    after_aps(received, out, f, given)
 }
 
 // A refusal leaves the board as it was, so that this is the one to look with.
-fn after_aps(after: After, out: [u8; 256], f: Frame, given: u64) -> Moved {
-    let found = after.answer;
-    let b = after.board;
+fn after_aps(received: Received, out: [u8; 256], f: Frame, given: u64) -> Moved {
+    let found = received.answer;
+    let b = received.board;
     Moved {
         answer: told_aps(found, out, b, f, given),
         board: b,

@@ -1,6 +1,5 @@
 // Frames sealed, at both layers.
 use crate::answer::done;
-use crate::answer::refused;
 use crate::asked::Frame;
 use crate::desk::Desk;
 use crate::desk::Moved;
@@ -12,6 +11,7 @@ use board::Board;
 use board::Sent;
 use lines::Answer;
 use lines::hex;
+use lines::refused;
 
 pub(crate) fn seal(f: Frame, desk: Desk) -> Reply {
     let b = desk.board;
@@ -24,7 +24,7 @@ fn seal_network(f: Frame, b: Board, lent: usize) -> Moved {
     let mut out = [0u8; 256];
     let room = room_of(lent, &out);
     let sent = network::seal_frame(b, text::front(&o, f.n), &mut out[..room]);
-    written(sent, out)
+    sealed(sent, out)
 }
 
 pub(crate) fn seal_aps(partner: u64, identifier: u8, f: Frame, desk: Desk) -> Reply {
@@ -44,11 +44,11 @@ fn sealed_aps(partner: u64, identifier: u8, f: Frame, b: Board, lent: usize) -> 
         identifier,
         &mut out[..room],
     );
-    written(sent, out)
+    sealed(sent, out)
 }
 
-// The frame that sealing, or writing a command, laid at the start of the output.
-pub(crate) fn written(sent: Sent, out: [u8; 256]) -> Moved {
+// The frame that sealing laid at the start of the output.
+fn sealed(sent: Sent, out: [u8; 256]) -> Moved {
     let found = sent.answer;
     let b = sent.board;
     Moved {

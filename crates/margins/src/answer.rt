@@ -2,6 +2,7 @@
 use answers::Guard;
 use answers::Opened;
 use answers::Sealed;
+use answers::Written;
 use lines::Answer;
 use lines::address;
 use lines::decimal;
@@ -38,6 +39,13 @@ pub(crate) fn sealed(found: Sealed) -> Answer {
     match found {
         Sealed::Frame(n) => decimal(done(), n as u64),
         Sealed::Refused(why) => refused(why),
+    }
+}
+
+pub(crate) fn written(found: Written) -> Answer {
+    match found {
+        Written::Frame(n) => decimal(done(), n as u64),
+        Written::Refused(why) => refused(why),
     }
 }
 

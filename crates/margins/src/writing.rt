@@ -1,6 +1,6 @@
 // A command written, and the APS counter that it leaves.
-use crate::answer::sealed;
 use crate::answer::with_output;
+use crate::answer::written;
 use crate::lent::made_board;
 use crate::lent::room_of;
 use crate::read::Frame;
@@ -13,7 +13,7 @@ pub(crate) fn write(size: u64, ack: bool, c: Command, rest: Frame) -> Answer {
     let o = rest.octets;
     let mut out = [0xeeu8; 256];
     let room = room_of(size, &out);
-    let sent = commands::write_command(
+    let wrote = commands::write_command(
         made_board(),
         ack,
         c,
@@ -21,7 +21,7 @@ pub(crate) fn write(size: u64, ack: bool, c: Command, rest: Frame) -> Answer {
         text::front(&o, rest.n),
         &mut out[..room],
     );
-    let found = sent.answer;
-    let a = with_output(sealed(found), out, room);
-    decimal(a, sent.board.aps as u64)
+    let found = wrote.answer;
+    let a = with_output(written(found), out, room);
+    decimal(a, wrote.board.aps as u64)
 }

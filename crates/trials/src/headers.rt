@@ -5,6 +5,7 @@ use crate::read::Frame;
 use crate::read::counter;
 use crate::read::octet;
 use frames::Layer;
+use frames::PlainRead;
 use frames::Read;
 use frames::Secured;
 use lines::Answer;
@@ -16,30 +17,41 @@ use lines::word;
 
 pub(crate) fn frame(f: Frame) -> Answer {
     let o = f.octets;
-    read(frames::read_network(text::front(&o, f.n)))
+    read(frames::read_frame(Layer::Network, text::front(&o, f.n), 0))
 }
 
 pub(crate) fn aps_frame(sender: u64, f: Frame) -> Answer {
     let o = f.octets;
-    read(frames::read_aps(text::front(&o, f.n), sender))
+    read(frames::read_frame(Layer::Aps, text::front(&o, f.n), sender))
 }
 
 pub(crate) fn plain_frame(f: Frame) -> Answer {
     let o = f.octets;
-    read(frames::read_network_plain(text::front(&o, f.n)))
+    read_plain(frames::read_plain(Layer::Network, text::front(&o, f.n)))
 }
 
 pub(crate) fn plain_aps(f: Frame) -> Answer {
     let o = f.octets;
-    read(frames::read_aps_plain(text::front(&o, f.n)))
+    read_plain(frames::read_plain(Layer::Aps, text::front(&o, f.n)))
 }
 
 fn read(found: Read) -> Answer {
     match found {
         Read::Refused(why) => refused(why),
-        Read::Plain(h) => decimal(word(done(), b"plain"), h as u64),
+        Read::Plain(h) => plain(h),
         Read::Secured(s) => secured(s),
     }
+}
+
+fn read_plain(found: PlainRead) -> Answer {
+    match found {
+        PlainRead::Refused(why) => refused(why),
+        PlainRead::Header(h) => plain(h),
+    }
+}
+
+fn plain(h: usize) -> Answer {
+    decimal(word(done(), b"plain"), h as u64)
 }
 
 fn secured(s: Secured) -> Answer {

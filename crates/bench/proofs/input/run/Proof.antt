@@ -1,3 +1,4 @@
+-- Each turn leaves one less, so that the loop ends.
 use Prim.{Unit, tt}
 use borrow.Author.Needs.{needs}
 use Rattle.bench.proofs.input.run.Statement.{statement}
@@ -9,8 +10,8 @@ Inv-loop chunk₀ line₀ reader₀ desk₀ turns₀ chunk line reader desk turn
 abbrev μ-loop : tie.MeasureT-loop
 μ-loop chunk₀ line₀ reader₀ desk₀ turns₀ chunk line reader desk turns = turns
 
-fresh-line-requires : tie.Need-fresh-line-requires Inv-loop μ-loop
-fresh-line-requires c κs = search needs
+fresh-reader-requires : tie.Need-fresh-reader-requires Inv-loop μ-loop
+fresh-reader-requires c κs = search needs
 
 fresh-desk-requires : tie.Need-fresh-desk-requires Inv-loop μ-loop
 fresh-desk-requires c κs = search needs
@@ -18,8 +19,8 @@ fresh-desk-requires c κs = search needs
 loop-holds : tie.Need-loop-holds Inv-loop μ-loop
 loop-holds c = tt
 
-next-line-requires : tie.Need-next-line-requires Inv-loop μ-loop
-next-line-requires c κs = search needs
+read-on-requires : tie.Need-read-on-requires Inv-loop μ-loop
+read-on-requires c κs = search needs
 
 answer-line-requires : tie.Need-answer-line-requires Inv-loop μ-loop
 answer-line-requires c κs = search needs
@@ -45,10 +46,10 @@ run-spec =
     (tie.spec
     Inv-loop
     μ-loop
-    fresh-line-requires
+    fresh-reader-requires
     fresh-desk-requires
     loop-holds
-    next-line-requires
+    read-on-requires
     answer-line-requires
     sub-turns
     loop-less
