@@ -1,3 +1,4 @@
+-- No more is lent than there is: the lesser of the two numbers.
 use native.Mathlib.Omega.{arith}
 use lib.ListN.{length-take}
 use borrow.Author.Needs.{needs}

@@ -1,3 +1,4 @@
+-- A row is the line's where its word is the same, which is tested first, and then its form.
 use mathlib.Core.Path.{_≡_, sym, _∙_, ap, ap₂}
 use mathlib.Core.List.{List}
 use Prim.Native.Nat.{ℕ}

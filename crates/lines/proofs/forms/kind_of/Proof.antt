@@ -1,3 +1,4 @@
+-- Each letter has its arm; the last arm has a letter that is none of these.
 use borrow.Author.Tests.{ne-eqb}
 use Rattle.lines.specs.Kinds.{kindOf}
 use borrow.Author.Needs.{needs}

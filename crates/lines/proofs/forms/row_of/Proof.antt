@@ -1,3 +1,4 @@
+-- The loop keeps: no row before r is the line's, so that the first row is to be found from r on.
 use mathlib.Core.Path.{_≡_, sym, _∙_, ap}
 use Prim.Native.Nat.{ℕ, _≤_, _-_, _/_}
 use native.Mathlib.Omega.{arith}
