@@ -65,7 +65,8 @@ module _ (z : Settings) (fair : Fair z) (link : Key) (f : List ℕ) (h k n a : �
     opened-entry : admitted c g s o i (valid (drop h f)) ≡ framed (opened (length f) a (under k)) (withFloor c i (n + 1)) (onto f o)
     unfolding admitted
     opened-entry =
-        ap₂ (λ (x y : ℕ). framed (opened x a (under y)) (withFloor c i (n + 1)) (onto (plainFrame Aps g s (drop h f)) o)) plain-count named-so
+        ap₂ (λ (x y : ℕ). framed (opened x a (under y)) (withFloor c i (n + 1)) (onto (plainFrame Aps g s (drop h f)) o))
+        plain-count named-so
         ∙ ap (λ (x : List ℕ). framed (opened (length f) a (under k)) (withFloor c i (n + 1)) (onto x o))
         (plain-again z (keyFor link k) 0 p)
 

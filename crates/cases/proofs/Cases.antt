@@ -70,39 +70,48 @@ first-is p n i r low high t before = go (firstAt p i n) refl
     go (At q) e = e ∙ ap At (same q (first-found p n i q e))
     go Absent e = clash r t (first-none p n i e r low high)
 
-module _ (z : Settings) (w₀ : Lists) (i a r : ℕ) (e : rowFor z w₀ i a ≡ At r) where
-  abbrev h : ℕ
-  h = z .rows
+-- row r is the one that sender a has in slot i, or gets there
+module _ (z : Settings) (w : Lists) (i a r : ℕ) (e : rowFor z w i a ≡ At r) where
+  abbrev addrs : List ℕ
+  addrs = w .addrs
 
-  abbrev al : List ℕ
-  al = w₀ .addrs
+  -- the slot's first row, and how many of its rows the list has
+  abbrev first : ℕ
+  first = i * z .rows
 
   abbrev rows : ℕ
-  rows = min h (length al - i * h)
+  rows = min (z .rows) (length addrs - first)
 
   abbrev has : List ℕ → ℕ → ℕ → Bool
   has l x k = eqb (getD l k 0) x
 
-  -- the row that a sender has or gets is the lowest that has its address then
-  lowest : (x : ℕ) → findRow al (i * h) h x ≡ At r → ((k : ℕ) → i * h ≤ k → k < r → has al a k ≡ false)
-      → findRow (set al r a) (i * h) h a ≡ At r
+  -- where address x is first found among the slot's rows of l
+  abbrev rowIn : List ℕ → ℕ → Place
+  rowIn l x = findRow l first (z .rows) x
+
+  -- the addresses once the row has the sender's
+  abbrev left : List ℕ
+  left = set addrs r a
+
+  -- the row is then the lowest that has its address
+  lowest : (x : ℕ) → rowIn addrs x ≡ At r → ((k : ℕ) → first ≤ k → k < r → has addrs a k ≡ false) → rowIn left a ≡ At r
   unfolding findRow
   lowest x d none =
-      let w = first-found (has al x) rows (i * h) r d in
-      ap (λ (n : ℕ). firstAt (has (set al r a) a) (i * h) (min h (n - i * h))) (length-set al r a)
-      ∙ first-is (has (set al r a) a) rows (i * h) r (w .low) (w .high)
-      (eq-eqb _ _ (getD-set-same al r a 0 (row-place al (i * h) h x r d)))
-      (λ k b c. ap (λ (y : ℕ). eqb y a) (getD-set-other al r k a 0 (λ q. omega arith)) ∙ none k b c)
+      let f = first-found (has addrs x) rows first r d in
+      ap (λ (n : ℕ). firstAt (has left a) first (min (z .rows) (n - first))) (length-set addrs r a)
+      ∙ first-is (has left a) rows first r (f .low) (f .high)
+      (eq-eqb _ _ (getD-set-same addrs r a 0 (row-place addrs first (z .rows) x r d)))
+      (λ k b c. ap (λ (y : ℕ). eqb y a) (getD-set-other addrs r k a 0 (λ q. omega arith)) ∙ none k b c)
 
-  heard : findRow (set al r a) (i * h) h a ≡ At r
+  heard : rowIn left a ≡ At r
   unfolding rowFor findRow
-  heard = go (findRow al (i * h) h a) refl e
+  heard = go (rowIn addrs a) refl e
     where
-      go : (x : Place) → findRow al (i * h) h a ≡ x → orFree z w₀ i x ≡ At r → findRow (set al r a) (i * h) h a ≡ At r
-      go (At q) d u = lowest a (d ∙ u) (first-found (has al a) rows (i * h) r (d ∙ u) .before)
+      go : (x : Place) → rowIn addrs a ≡ x → orFree z w i x ≡ At r → rowIn left a ≡ At r
+      go (At q) d u = lowest a (d ∙ u) (first-found (has addrs a) rows first r (d ∙ u) .before)
       go Absent d u =
-          let high = first-found (has al 0) rows (i * h) r u .high in
-          lowest 0 u (λ k b c. first-none (has al a) rows (i * h) d k b (omega arith))
+          let high = first-found (has addrs 0) rows first r u .high in
+          lowest 0 u (λ k b c. first-none (has addrs a) rows first d k b (omega arith))
 
 -- the floor that a sender finds behind its row's change
 left-floor : (z : Settings) (w : Lists) (i a r v : ℕ) → rowFor z w i a ≡ At r → listsFit z w ≡ true
@@ -169,15 +178,15 @@ m9 = at-both Seven seven
   where
     seven : (t : Trial) → Judged t → Seven t
     seven t j e = (
-      λ c. j .stale (λ zz. omega arith) (omega arith),
-      λ c p. j .raises (λ zz. omega arith) (omega arith) p ∙ omega arith,
+      λ c. j .stale (λ u. omega arith) (omega arith),
+      λ c p. j .raises (λ u. omega arith) (omega arith) p ∙ omega arith,
     )
 
 m10 : M10
 m10 = at-both Last last
   where
     last : (t : Trial) → Judged t → Last t
-    last t j c l p = j .raises (λ zz. omega arith) (omega arith) p ∙ omega arith
+    last t j c l p = j .raises (λ u. omega arith) (omega arith) p ∙ omega arith
 
 m11 : M11
 m11 = at-both Top λ t j. j .atTop
@@ -220,8 +229,8 @@ module _ (f : List ℕ) (e : Eight f) where
     bare-so = omega (arith, aux-of)
 
     none-left : (m : List ℕ) → length m ≡ 0 → m ≡ []
-    none-left [] zz = refl
-    none-left (x ∷ m) zz = absurd (omega arith)
+    none-left [] n = refl
+    none-left (x ∷ m) n = absurd (omega arith)
 
     empty-so : Empty f (announced f 8 0)
     unfolding announced

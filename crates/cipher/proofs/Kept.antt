@@ -180,16 +180,23 @@ hashed-octets h (suc n) f p o =
 pub hash-octets : (d : List ℕ) → Octets d → Octets (hashOf d)
 unfolding hashOf padded blocks
 hash-octets d o =
-    hashed-octets zeroBlock (blockCount (length (padded d))) (λ n. blockFrom (padded d) (16 * n)) (λ i. block-octets (padded d) (16 * i) pads)
+    hashed-octets zeroBlock (blockCount (length (padded d))) (λ n. blockFrom (padded d) (16 * n))
+    (λ i. block-octets (padded d) (16 * i) pads)
     (tab-octets 16 (λ i. 0) (λ i h. omega arith))
   where
+    filling : ℕ
+    filling = (29 - length d % 16) % 16
+
     pads : Octets (padded d)
-    pads = append-octets d _ o (cons-octets 0x80 _ (omega arith) (append-octets _ _ (zeros-octets ((29 - length d % 16) % 16)) (two-octets (8 * length d))))
+    pads =
+        append-octets d _ o
+        (cons-octets 0x80 _ (omega arith) (append-octets _ _ (zeros-octets filling) (two-octets (8 * length d))))
 
 pub keyed-octets : (k d : List ℕ) → Octets k → Octets d → Octets (keyedHash k d)
 unfolding keyedHash
 keyed-octets k d o p =
-    hash-octets _ (append-octets (plusEach k 0x5c) _ (each 0x5c (omega arith)) (hash-octets _ (append-octets (plusEach k 0x36) d (each 0x36 (omega arith)) p)))
+    let inner = hash-octets _ (append-octets (plusEach k 0x36) d (each 0x36 (omega arith)) p) in
+    hash-octets _ (append-octets (plusEach k 0x5c) _ (each 0x5c (omega arith)) inner)
   where
     each : (x : ℕ) → x < 256 → Octets (plusEach k x)
     each x h = tab-octets 16 (λ i. bitXor (at k i) x) (λ i l. xor-octet (o .octet i) h)

@@ -26,11 +26,11 @@ tag-most M e = go (eqb M 0) refl e
   where
     inner : (s t : Bool) → leb M 16 ≡ t → both s (both t (eqb (M % 2) 0)) ≡ true → M ≤ 16
     inner true true q r = leb-true M 16 q
-    inner true false q r = let z : _≡_ {A = ℕ} 0 1 = cc in absurd (omega arith)
-    inner false t q r = let z : _≡_ {A = ℕ} 0 1 = cc in absurd (omega arith)
+    inner true false q r = let never : _≡_ {A = ℕ} 0 1 = cc in absurd (omega arith)
+    inner false t q r = let never : _≡_ {A = ℕ} 0 1 = cc in absurd (omega arith)
 
     go : (t : Bool) → eqb M 0 ≡ t → (if t then true else both (leb 4 M) (both (leb M 16) (eqb (M % 2) 0))) ≡ true → M ≤ 16
-    go true q r = let z = eqb-true M 0 q in omega arith
+    go true q r = let e = eqb-true M 0 q in omega arith
     go false q r = inner (leb 4 M) (leb M 16) refl r
 
 module _ (E : List ℕ → List ℕ) (M : ℕ) (n a c o : List ℕ) (m≤ : M ≤ 16) (m≤c : M ≤ length c) where
@@ -57,7 +57,9 @@ module _ (E : List ℕ → List ℕ) (M : ℕ) (n a c o : List ℕ) (m≤ : M �
       mac = ap (take M) (ex ∙ ap (macOf E M n a) (plain-front z p ep))
 
       whole : v ≡ sealOf M c
-      whole = ev ∙ take-all (length c - (length c - M)) (sealOf M c) (rw (length-drop (length c - M) c) (le-refl (length c - (length c - M))))
+      whole =
+          ev ∙ take-all (length c - (length c - M)) (sealOf M c)
+          (rw (length-drop (length c - M) c) (le-refl (length c - (length c - M))))
 
       same : (i : ℕ) → i < M → at u i ≡ at (sealOf M c) i
       same i h = ap (λ (l : List ℕ). at l i) eu ∙ block-at v 0 i (omega arith) ∙ ap₂ at whole (zero-add i)
@@ -75,4 +77,5 @@ module _ (E : List ℕ → List ℕ) (M : ℕ) (n a c o : List ℕ) (m≤ : M �
   opened-true z p q h e ep eq =
       let f = plain-front z p ep in
       let l : length plainOf ≤ length o = rw plain-length h in
-      rw (le-ltb _ _ m≤c, e) (ap₂ (λ (k : ℕ) (x : List ℕ). product (made k) x) (sym plain-length) (pasted-onto q o plainOf (eq ∙ ap (pasted o 0) f) l))
+      let front : q ≡ onto plainOf o = pasted-onto q o plainOf (eq ∙ ap (pasted o 0) f) l in
+      rw (le-ltb _ _ m≤c, e) (ap₂ (λ (k : ℕ) (x : List ℕ). product (made k) x) (sym plain-length) front)

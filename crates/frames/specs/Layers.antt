@@ -1,5 +1,6 @@
 -- The two layers side by side, so that what both share is said once: a layer's control field, form, security bit, header and
--- key identifiers (document 01, "Layout of a network frame", "Layout of an APS frame", "The auxiliary header and the nonce"; RULES 4, 5, 6).
+-- key identifiers (document 01, "Layout of a network frame", "Layout of an APS frame", "The auxiliary header and the nonce";
+-- RULES 4, 5, 6).
 -- Assumes nothing.
 use mathlib.Core.Bool.{Bool}
 use mathlib.Core.List.{List}

@@ -17,7 +17,7 @@ use Rattle.history.specs.Calls.{Call, install, switch, addLink, removeLi
 use Rattle.history.specs.Events.{Holder, slot, link, Installation, key, Event, keyIn, sameKey, sentIn}
 use Rattle.history.specs.Story.{installing, hearing, telling, eventsOf, story}
 use Rattle.history.specs.Statement.{readings, lower, rising, First}
-use Rattle.history.specs.Running.{Held, byFrame, step, run, replies}
+use Rattle.history.specs.Running.{Held, Step, byFrame, step, run, replies}
 use Rattle.history.proofs.Ways.{Made, network-seals, aps-seals, writes}
 use Rattle.aps.proofs.Ways as aps
 use Rattle.answers.specs.Numbers.{done, refused as declined}
@@ -37,8 +37,8 @@ use Rattle.commands.specs.Writing.{apsRaised}
 
 -- ---- a sealed frame, as its receiver reads it
 
-module _ (z : Settings) (l : Layer) (b : Board) (f o : List ℕ) (n : ℕ) (p : List ℕ) (t : Made z l b f o n p) (octets : Octets f) (low : b .outgoing < 2 ^ 32)
-    (wide : b .own < 2 ^ 64) (someone : noAddress (b .own) ≡ false) where
+module _ (z : Settings) (l : Layer) (b : Board) (f o : List ℕ) (n : ℕ) (p : List ℕ) (t : Made z l b f o n p) (octets : Octets f)
+    (low : b .outgoing < 2 ^ 32) (wide : b .own < 2 ^ 64) (someone : noAddress (b .own) ≡ false) where
   to-seal : ToSeal l f (t .header) (t .named) (b .outgoing) (b .own)
   to-seal = record { unsecured = t .unsecured; octets = octets; suited = t .suited; counter = low; sender = wide; someone = someone }
 
@@ -61,7 +61,8 @@ pub record Sends (own : ℕ) (b : Board) (rs : List Reading) : Type 0 where
   pub rises : rising rs ≡ true
 
 -- a call that seals nothing
-kept : {own : ℕ} {b c : Board} {rs qs : List Reading} → Sends own b rs → c .own ≡ b .own → c .outgoing ≡ b .outgoing → qs ≡ rs → Sends own c qs
+kept : {own : ℕ} {b c : Board} {rs qs : List Reading} → Sends own b rs → c .own ≡ b .own → c .outgoing ≡ b .outgoing → qs ≡ rs
+    → Sends own c qs
 kept w p q e = record { owned = p ∙ w .owned; low = rw q (w .low); below = rw (q, e) (w .below); rises = rw e (w .rises) }
 
 quiet : (r : Reply) (es h : List Event) → sentIn (es ++ h) ≡ sentIn h → sentIn ((if refuses r then [] else es) ++ h) ≡ sentIn h
@@ -88,15 +89,24 @@ module _ (z : Settings) (own : ℕ) (wide : own < 2 ^ 64) (someone : noAddress o
   abbrev b : Board
   b = x .board
 
+  -- call c may end in y: the counters rise through what call and reply tell
+  abbrev Ends : Call → Step → Type 0
+  Ends c y = Sends own (y .after .board) (readings z (sentIn (eventsOf z h c (y .reply) ++ h)))
+
   abbrev After : Call → Type 0
-  After c = Sends own (step z c x .after .board) (readings z (sentIn (eventsOf z h c (step z c x .reply) ++ h)))
+  After c = Ends c (step z c x)
+
+  -- it may end in y, and tells of no sealed frame
+  abbrev Silent : Step → Type 0
+  Silent y = Sends own (y .after .board) (readings z (sentIn h))
 
   -- the counter of a frame that is sealed is above the last one's
   sends-made : (l : Layer) (f o : List ℕ) → Octets f → (n : ℕ) (p : List ℕ) → Made z l b f o n p
       → Sends own (spent b) (reading z l (take n p) 0 ∷ readings z (sentIn h))
   unfolding spent
   sends-made l f o octets n p t =
-      rw (read-made z l b f o n p t octets (omega (arith, w .low)) (rw (w .owned) wide) (rw (w .owned) someone), ne-eqb (b .outgoing) top (t .below))
+      let read = read-made z l b f o n p t octets (omega (arith, w .low)) (rw (w .owned) wide) (rw (w .owned) someone) in
+      rw (read, ne-eqb (b .outgoing) top (t .below))
       (record {
         owned = w .owned;
         low = omega (arith, w .low, t .below);
@@ -106,27 +116,21 @@ module _ (z : Settings) (own : ℕ) (wide : own < 2 ^ 64) (someone : noAddress o
 
   sends-seal : (l : Layer) (f : List ℕ) (a k : ℕ) (o : List ℕ) → Octets f → After (sealing l f a k o)
   sends-seal Network f a k o octets =
-      network-seals z b f o
-      (λ (r : Framed). Sends own (byFrame x r .after .board) (readings z (sentIn (eventsOf z h (sealing Network f a k o) (byFrame x r .reply) ++ h))))
-      (λ n. w) (sends-made Network f o octets)
+      network-seals z b f o (λ (r : Framed). Ends (sealing Network f a k o) (byFrame x r)) (λ n. w) (sends-made Network f o octets)
   sends-seal Aps f a k o octets =
-      aps-seals z b f o
-      (λ (r : Framed). Sends own (byFrame x r .after .board) (readings z (sentIn (eventsOf z h (sealing Aps f a k o) (byFrame x r .reply) ++ h))))
-      (λ n. w) a k (sends-made Aps f o octets)
+      aps-seals z b f o (λ (r : Framed). Ends (sealing Aps f a k o) (byFrame x r)) (λ n. w) a k (sends-made Aps f o octets)
 
-  sends-aps : (f : List ℕ) (g : ℕ) (o : List ℕ) → Sends own (step z (opening Aps f g o) x .after .board) (readings z (sentIn h))
+  sends-aps : (f : List ℕ) (g : ℕ) (o : List ℕ) → Silent (step z (opening Aps f g o) x)
   sends-aps f g o =
-      aps.open-ways z b f g o (λ (r : Framed). Sends own (byFrame x r .after .board) (readings z (sentIn h))) (λ n. w) (λ n e. w)
-      (λ s i t. kept w refl refl refl)
+      aps.open-ways z b f g o (λ (r : Framed). Silent (byFrame x r)) (λ n. w) (λ n e. w) (λ s i t. kept w refl refl refl)
 
-  sends-write : (a : Bool) (c : Command) (k r o : List ℕ) → Sends own (step z (writing a c k r o) x .after .board) (readings z (sentIn h))
+  sends-write : (a : Bool) (c : Command) (k r o : List ℕ) → Silent (step z (writing a c k r o) x)
   unfolding apsRaised
   sends-write a c k r o =
-      writes z b a c k r o (λ (w : Framed). Sends own (byFrame x w .after .board) (readings z (sentIn h))) (λ n. w) (λ n p. kept w refl refl refl)
+      writes z b a c k r o (λ (y : Framed). Silent (byFrame x y)) (λ n. w) (λ n p. kept w refl refl refl)
 
   -- a call that tells nothing of sealing
-  silent : (c : Call) → Sends own (step z c x .after .board) (readings z (sentIn h))
-      → sentIn (telling z h c (handedOut (step z c x .reply)) ++ h) ≡ sentIn h → After c
+  silent : (c : Call) → Silent (step z c x) → sentIn (telling z h c (handedOut (step z c x .reply)) ++ h) ≡ sentIn h → After c
   silent c v q = kept v refl refl (ap (readings z) (quiet (step z c x .reply) (telling z h c (handedOut (step z c x .reply))) h q))
 
   sends-step : (c : Call) → Octets (toSeal c) → After c
@@ -139,9 +143,11 @@ module _ (z : Settings) (own : ℕ) (wide : own < 2 ^ 64) (someone : noAddress o
   sends-step (removeLink a) o = let t = remove-keeps b a in silent (removeLink a) (kept w (t .own) (t .outgoing) refl) refl
   sends-step (forget i a) o = silent (forget i a) w refl
   sends-step (opening Network f g p) o =
-      silent (opening Network f g p) w (quiet-hearing h Network f (handedOut (step z (opening Network f g p) x .reply)) (reading z Network f g))
+      let given = handedOut (step z (opening Network f g p) x .reply) in
+      silent (opening Network f g p) w (quiet-hearing h Network f given (reading z Network f g))
   sends-step (opening Aps f g p) o =
-      silent (opening Aps f g p) (sends-aps f g p) (quiet-hearing h Aps f (handedOut (step z (opening Aps f g p) x .reply)) (reading z Aps f g))
+      let given = handedOut (step z (opening Aps f g p) x .reply) in
+      silent (opening Aps f g p) (sends-aps f g p) (quiet-hearing h Aps f given (reading z Aps f g))
   sends-step (sealing l f a k p) o = sends-seal l f a k p o
   sends-step (looking Network f g) o = w
   sends-step (looking Aps f g) o = w
@@ -151,8 +157,11 @@ module _ (z : Settings) (own : ℕ) (wide : own < 2 ^ 64) (someone : noAddress o
 
 sends-fresh : (own : ℕ) → make own .answer ≡ done → (noAddress own ≡ false) × Sends own (make own .board) []
 unfolding make
-sends-fresh own = choose (λ (r : Changed). r .answer ≡ done → (noAddress own ≡ false) × Sends own (r .board) []) (noAddress own) _ _ none made
+sends-fresh own = choose P (noAddress own) _ _ none made
   where
+    P : Changed → Type 0
+    P r = r .answer ≡ done → (noAddress own ≡ false) × Sends own (r .board) []
+
     none : noAddress own ≡ true → declined 14 ≡ done → (noAddress own ≡ false) × Sends own (fresh 0) []
     none t e = let never : _≡_ {A = ℕ} 0 1 = cc in absurd (omega arith)
 
@@ -163,7 +172,8 @@ sends : (z : Settings) (own : ℕ) → own < 2 ^ 64 → make own .answer ≡ don
     → Sends own (run z own cs .board) (readings z (sentIn (story z (exchanges (replies z own) cs))))
 sends z own wide e [] o = sends-fresh own e .1
 sends z own wide e (c ∷ cs) o =
-    sends-step z own wide (sends-fresh own e .0) (run z own cs) (story z (exchanges (replies z own) cs)) (sends z own wide e cs (o .1)) c (o .0)
+    let before = sends z own wide e cs (o .1) in
+    sends-step z own wide (sends-fresh own e .0) (run z own cs) (story z (exchanges (replies z own) cs)) before c (o .0)
 
 pub first : (z : Settings) (own : ℕ) → own < 2 ^ 64 → make own .answer ≡ done → First z (replies z own)
 first z own wide e cs o = sends z own wide e cs o .rises

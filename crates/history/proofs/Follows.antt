@@ -79,7 +79,8 @@ below-apart s (secured t) b = λ e. omega arith
 below-apart s (plain i) b = b
 below-apart s (refused i) b = b
 
-rising-apart : (rs : List Reading) → rising rs ≡ true → (i j : ℕ) → i < j → j < length rs → Apart (getD rs i (plain 0)) (getD rs j (plain 0))
+rising-apart : (rs : List Reading) → rising rs ≡ true → (i j : ℕ) → i < j → j < length rs
+    → Apart (getD rs i (plain 0)) (getD rs j (plain 0))
 rising-apart [] r i j h k = absurd (omega arith)
 rising-apart (secured s ∷ rs) r i zero h k = absurd (omega arith)
 rising-apart (secured s ∷ rs) r zero (suc j) h k =
@@ -164,18 +165,21 @@ stale-stays x a c (heard y r ∷ es) h u e = go (same y x) (stale-stays x a c es
   where
     go : (t : Bool) → aboveAll a c (heardIn (es ++ h) x) ≡ false
         → aboveAll a c (if t then r ∷ heardIn (es ++ h) x else heardIn (es ++ h) x) ≡ false
-    go true ih = ap (both (if eqb (r .sender) a then ltb (r .counter) c else true)) ih ∙ both-false (if eqb (r .sender) a then ltb (r .counter) c else true)
+    go true ih =
+        let above = if eqb (r .sender) a then ltb (r .counter) c else true in
+        ap (both above) ih ∙ both-false above
     go false ih = ih
 stale-stays x a c (sent s ∷ es) h u e = stale-stays x a c es h u e
 
 same-self : (h : List Event) (x : Holder) (n : ℕ) (k : Key) → keyIn h x ≡ key n k → same x x ≡ true
 same-self h (slot i) n k e = eq-eqb i i refl
 same-self h (link a) n k e = eq-eqb a a refl
-same-self h nowhere n k e = let zz : none ≡ key n k = sym (key-nowhere h) ∙ e in cc
+same-self h nowhere n k e = let never : none ≡ key n k = sym (key-nowhere h) ∙ e in cc
 
 -- ---- what the checks tell
 
-module _ (z : Settings) (h : List Event) (l : Layer) (f : List ℕ) (g : ℕ) (o : List ℕ) (s : Secured) (read : reading z l f g ≡ secured s) where
+module _ (z : Settings) (h : List Event) (l : Layer) (f : List ℕ) (g : ℕ) (o : List ℕ) (s : Secured)
+    (read : reading z l f g ≡ secured s) where
   abbrev x : Holder
   x = holderFor h l s
 
@@ -219,7 +223,8 @@ module _ (z : Settings) (board : Replies) (meets : Second z board) where
   opened-so : (cs : List Call) (l : Layer) (f : List ℕ) (g : ℕ) (o : List ℕ) (s : Secured) → Octets f → reading z l f g ≡ secured s
       → not (refuses (board cs (opening l f g o))) ≡ passes z (story z (exchanges board cs)) l f g o
   opened-so cs l f g o s octets e =
-      subst (λ (r : Reading). Rightly r (board cs (opening l f g o)) (passes z (story z (exchanges board cs)) l f g o)) e (meets cs l f g o octets)
+      subst (λ (r : Reading). Rightly r (board cs (opening l f g o)) (passes z (story z (exchanges board cs)) l f g o)) e
+      (meets cs l f g o octets)
 
   -- a frame that is not above all counters opened is refused, whatever else might be told of it: also as unsecured
   pub stale-refused : (cs : List Call) (l : Layer) (f : List ℕ) (g : ℕ) (o : List ℕ) (s : Secured) → Octets f → reading z l f g ≡ secured s
@@ -229,8 +234,8 @@ module _ (z : Settings) (board : Replies) (meets : Second z board) where
       not-back (refuses (board cs (opening l f g o))) false
       (opened-so cs l f g o s octets e ∙ stale-not z (story z (exchanges board cs)) l f g o s e q)
 
-  module _ (cs : List Call) (l : Layer) (f : List ℕ) (g : ℕ) (o : List ℕ) (s : Secured) (octets : Octets f) (read : reading z l f g ≡ secured s)
-      (open-first : refuses (board cs (opening l f g o)) ≡ false) where
+  module _ (cs : List Call) (l : Layer) (f : List ℕ) (g : ℕ) (o : List ℕ) (s : Secured) (octets : Octets f)
+      (read : reading z l f g ≡ secured s) (open-first : refuses (board cs (opening l f g o)) ≡ false) where
     abbrev once : Call
     once = opening l f g o
 
@@ -352,8 +357,9 @@ module _ (z : Settings) (board : Replies) (meets : Second z board) where
           )
 
   -- so a board that took a network key and then refuses a first frame sealed under it does not meet the statement
-  pub installed-opens : Fair z → (k : Key) (q n a : ℕ) (f : List ℕ) (i g : ℕ) (o : List ℕ) → 0 < z .rows → refuses (board [] (install 0 q k)) ≡ false
-      → ToSeal Network f i 1 n a → Octets (k .octets) → q < 256 → longest ≤ length o → length f + sentOctets 1 + z .tag ≤ longest → n < top
+  pub installed-opens : Fair z → (k : Key) (q n a : ℕ) (f : List ℕ) (i g : ℕ) (o : List ℕ) → 0 < z .rows
+      → refuses (board [] (install 0 q k)) ≡ false → ToSeal Network f i 1 n a → Octets (k .octets) → q < 256 → longest ≤ length o
+      → length f + sentOctets 1 + z .tag ≤ longest → n < top
       → refuses (board (install 0 q k ∷ []) (opening Network (sealedFrame z k Network 1 n a q f i) g o)) ≡ false
   unfolding slotFor firstAt
   installed-opens fair k q n a f i g o mp took p ok oq ro so nt =

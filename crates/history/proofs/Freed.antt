@@ -24,7 +24,9 @@ module _ (l : List ℕ) (i n : ℕ) (h : i + n ≤ length l) where
 
   some-in : (j : ℕ) → j ≤ n → (k : ℕ) → i ≤ k → k < i + j → getD (some j) k 0 ≡ 0
   some-in zero b k c d = absurd (omega arith)
-  some-in (suc j) b k c d = ap (λ (x : List ℕ). getD x k 0) (some-more j (omega arith)) ∙ ⊎-elim last (λ ne. before ne (some-in j (omega arith) k)) (same-or k (i + j))
+  some-in (suc j) b k c d =
+      ap (λ (x : List ℕ). getD x k 0) (some-more j (omega arith))
+      ∙ ⊎-elim last (λ ne. before ne (some-in j (omega arith) k)) (same-or k (i + j))
     where
       last : k ≡ i + j → getD (set (some j) (i + j) 0) k 0 ≡ 0
       last e = rw e (getD-set-same (some j) (i + j) 0 0 (omega (arith, some-length j (omega arith))))

@@ -107,7 +107,9 @@ module _ {ls : List Link} {keys : ℕ → Installation} {opened : ℕ → List �
   place-kept b ne = first-ext (pairsAt ks b) (pairsAt ls b) 8 0 (λ j c d. test-kept b j ne)
 
   once-kept : (b j k : ℕ) → j < 8 → k < 8 → pairsAt ks b j ≡ true → pairsAt ks b k ≡ true → j ≡ k
-  once-kept b j k j< k< e f = ⊎-elim (λ (g : b ≡ a). mine g) (λ (g : b ≡ a → ⊥). w .once b j k j< k< (sym (test-kept b j g) ∙ e) (sym (test-kept b k g) ∙ f)) (same-or b a)
+  once-kept b j k j< k< e f =
+      ⊎-elim (λ (g : b ≡ a). mine g)
+      (λ (g : b ≡ a → ⊥). w .once b j k j< k< (sym (test-kept b j g) ∙ e) (sym (test-kept b k g) ∙ f)) (same-or b a)
     where
       at-i : b ≡ a → (q : ℕ) → q < 8 → pairsAt ks b q ≡ true → q ≡ i
       at-i g q q< u =

@@ -107,8 +107,8 @@ Mine a v = (v ≡ a) ⊎ (v ≡ 0)
 not-mine : (a b v : ℕ) → Mine a v → (b ≡ a → ⊥) → (b ≡ 0 → ⊥) → v ≡ b → ⊥
 not-mine a b v w na nz e = ⊎-elim (λ (p : v ≡ a). na (sym e ∙ p)) (λ (p : v ≡ 0). nz (sym e ∙ p)) w
 
-module _ (m : ℕ) {al fl : List ℕ} {opened : ℕ → ℕ → List ℕ} {senders : ℕ → List ℕ} (w : Rows m al fl opened senders) (i r a v x : ℕ) (i< : i < 2)
-    (inr : In m i r) (az : a ≡ 0 → ⊥) (was : Mine a (getD al r 0)) (now : Mine a v)
+module _ (m : ℕ) {al fl : List ℕ} {opened : ℕ → ℕ → List ℕ} {senders : ℕ → List ℕ} (w : Rows m al fl opened senders)
+    (i r a v x : ℕ) (i< : i < 2) (inr : In m i r) (az : a ≡ 0 → ⊥) (was : Mine a (getD al r 0)) (now : Mine a v)
     (others : (q : ℕ) → In m i q → (q ≡ r → ⊥) → getD al q 0 ≡ a → ⊥) where
   abbrev bl : List ℕ
   bl = set al r v
@@ -170,7 +170,7 @@ module _ (m : ℕ) {al fl : List ℕ} {opened : ℕ → ℕ → List ℕ} {sende
 
           apart : (q ≡ r → ⊥) → ⊥
           apart u =
-              hit q (omega (arith, p, ins), omega (arith, p, ins)) inq u (sym (kept q u) ∙ sym e ∙ at-s) (λ zz. nz (at-s ∙ zz))
+              hit q (omega (arith, p, ins), omega (arith, p, ins)) inq u (sym (kept q u) ∙ sym e ∙ at-s) (λ n. nz (at-s ∙ n))
 
       second : (s ≡ r → ⊥) → s ≡ q
       second p = ⊎-elim (λ (u : q ≡ r). absurd (apart u)) (λ (u : q ≡ r → ⊥). neither u) (same-or q r)
@@ -178,10 +178,10 @@ module _ (m : ℕ) {al fl : List ℕ} {opened : ℕ → ℕ → List ℕ} {sende
           apart : q ≡ r → ⊥
           apart u =
               let at-q : getD bl q 0 ≡ v = rw u now-is in
-              hit s (omega (arith, u, inq), omega (arith, u, inq)) ins p (sym (kept s p) ∙ e ∙ at-q) (λ zz. nz (e ∙ at-q ∙ zz))
+              hit s (omega (arith, u, inq), omega (arith, u, inq)) ins p (sym (kept s p) ∙ e ∙ at-q) (λ n. nz (e ∙ at-q ∙ n))
 
           neither : (q ≡ r → ⊥) → s ≡ q
-          neither u = w .once j j< s q ins inq (sym (kept s p) ∙ e ∙ kept q u) (λ zz. nz (kept s p ∙ zz))
+          neither u = w .once j j< s q ins inq (sym (kept s p) ∙ e ∙ kept q u) (λ n. nz (kept s p ∙ n))
 
   use-kept : (j : ℕ) → j < 2 → (j ≡ i → ⊥) → count (inUse bl) (j * m) m ≡ count (inUse al) (j * m) m
   use-kept j j< ne =

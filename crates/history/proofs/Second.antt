@@ -72,18 +72,22 @@ above-floor : (a c n : ℕ) (l : List HeardFrame) → n ≡ bound (counters a l)
 above-floor a c n l e = ap (λ (k : ℕ). not (ltb c k)) e ∙ sym (above-bound a c l ∙ leb-ltb (bound (counters a l)) c)
 
 -- room, by names
-room-names : (m a : ℕ) (l : List HeardFrame) → (if member a (names l) then true else ltb (length (names l)) m) ≡ (if isFrom a l then true else ltb (senders l) m)
+room-names : (m a : ℕ) (l : List HeardFrame)
+    → (if member a (names l) then true else ltb (length (names l)) m) ≡ (if isFrom a l then true else ltb (senders l) m)
 room-names m a l = ap₂ (λ (t : Bool) (n : ℕ). if t then true else ltb n m) (sym (from-names a l)) (sym (senders-names l))
 
 pub plain-not : (n : ℕ) (s : Secured) → plain n ≡ secured s → ⊥
 plain-not n s e = let never : _≡_ {A = ℕ} 0 1 = cc in absurd (omega arith)
 
+plain-refused : (n k : ℕ) → plain n ≡ refused k → ⊥
+plain-refused n k e = let never : _≡_ {A = ℕ} 0 1 = cc in absurd (omega arith)
+
 -- two refusals in a row, and what follows
-two-checks : {A : Type 0} (T : A → Bool) (t u : Bool) (x y zz : A) → T x ≡ false → T y ≡ false
-    → T (if t then x else (if u then y else zz)) ≡ both (not t) (both (not u) (T zz))
-two-checks T true u x y zz p q = p
-two-checks T false true x y zz p q = q
-two-checks T false false x y zz p q = refl
+two-checks : {A : Type 0} (T : A → Bool) (t u : Bool) (x y v : A) → T x ≡ false → T y ≡ false
+    → T (if t then x else (if u then y else v)) ≡ both (not t) (both (not u) (T v))
+two-checks T true u x y v p q = p
+two-checks T false true x y v p q = q
+two-checks T false false x y v p q = refl
 
 -- ---- what a frame's octets tell
 
@@ -132,7 +136,9 @@ module _ (z : Settings) (x : Held) (h : List Event) (w : Stands z x h) (f : List
     unfolding network.admitted genuine
     tell-row k i i< =
         go (messageOf z k f s) (rowFor z (x .lists) i (s .sender))
-        ∙ ap (both (isValid (messageOf z k f s))) (room-told z (w .rows) i i< (s .sender) (sender-some z Network f 0 s e) ∙ room-names (z .rows) (s .sender) (heardIn h (slot i)))
+        ∙ ap (both (isValid (messageOf z k f s)))
+        (room-told z (w .rows) i i< (s .sender) (sender-some z Network f 0 s e)
+        ∙ room-names (z .rows) (s .sender) (heardIn h (slot i)))
       where
         go : (d : Verdict) (p : Place) → N (network.admitted f s lw d p) ≡ both (isValid d) (there p)
         go invalid p = refl
@@ -152,7 +158,9 @@ module _ (z : Settings) (x : Held) (h : List Event) (w : Stands z x h) (f : List
         ∙ ap (λ (t : Bool). both (ltb (s .counter) top) (both (aboveAll (s .sender) (s .counter) (heardIn h (slot i))) t)) (tell-row k i i<)
       where
         floor-is : floorOf z (x .lists) i (s .sender) ≡ bound (counters (s .sender) (heardIn h (slot i)))
-        floor-is = ap (floorAt (x .lists .floors)) (row-there z (w .rows) i i< (s .sender)) ∙ w .rows .floor i (s .sender) i< (sender-some z Network f 0 s e)
+        floor-is =
+            ap (floorAt (x .lists .floors)) (row-there z (w .rows) i i< (s .sender))
+            ∙ w .rows .floor i (s .sender) i< (sender-some z Network f 0 s e)
 
     tell-keyed : (p : Place) → slotOf (b .slots) (s .sequence) ≡ p
         → N (network.openedKeyed z (b .slots) f s lw p) ≡ passesUnder z h Network f s (holderAt p) (keyIn h (holderAt p))
@@ -163,7 +171,8 @@ module _ (z : Settings) (x : Held) (h : List Event) (w : Stands z x h) (f : List
         ∙ ap (passesUnder z h Network f s (slot i)) (sym (found-key (w .slots) (s .sequence) i q i<))
     tell-keyed Absent q = ap (passesUnder z h Network f s nowhere) (sym (key-nowhere h))
 
-  tell-read : (r : Reading) → reading z Network f 0 ≡ r → ((n : ℕ) → r ≡ plain n → ⊥) → N (network.openedRead z (b .slots) f lw r) ≡ passesRead z h Network f r
+  tell-read : (r : Reading) → reading z Network f 0 ≡ r → ((n : ℕ) → r ≡ plain n → ⊥)
+      → N (network.openedRead z (b .slots) f lw r) ≡ passesRead z h Network f r
   unfolding network.openedRead passesRead
   tell-read (refused n) e ne = refl
   tell-read (plain n) e ne = absurd (ne n refl)
@@ -175,7 +184,8 @@ module _ (z : Settings) (x : Held) (h : List Event) (w : Stands z x h) (f : List
   not-twice true = refl
   not-twice false = refl
 
-  pub tell-network : ((n : ℕ) → reading z Network f 0 ≡ plain n → ⊥) → not (refuses (step z (opening Network f g o) x .reply)) ≡ passes z h Network f g o
+  pub tell-network : ((n : ℕ) → reading z Network f 0 ≡ plain n → ⊥)
+      → not (refuses (step z (opening Network f g o) x .reply)) ≡ passes z h Network f g o
   unfolding network.openNetwork passes
   tell-network ne =
       two-checks N (not (both (leb longest (length o)) (listsFit z (x .lists)))) (ltb longest (length f)) _ _
@@ -211,7 +221,8 @@ module _ (z : Settings) (x : Held) (h : List Event) (w : Stands z x h) (f : List
         ∙ ap₂ (λ (t u : Bool). both t (both u (A (aps.admitted b f s o i message))))
         (sym (below-top (s .counter) (counter-low z Aps f g s octets e)))
         (above-floor (s .sender) (s .counter) (linkAt (b .links) i .floor) ns (t .1))
-        ∙ ap (λ (t : Bool). both (ltb (s .counter) top) (both (aboveAll (s .sender) (s .counter) ns) t)) (go message ∙ sym (both-true (isValid message)))
+        ∙ ap (λ (t : Bool). both (ltb (s .counter) top) (both (aboveAll (s .sender) (s .counter) ns) t))
+        (go message ∙ sym (both-true (isValid message)))
       where
         message : Verdict
         message = messageOf z (keyNamed (linkAt (b .links) i) s) f s
@@ -230,7 +241,8 @@ module _ (z : Settings) (x : Held) (h : List Event) (w : Stands z x h) (f : List
     tell-link (At i) q t = tell-entry i t ∙ ap (passesUnder z h Aps f s (link (s .sender))) (sym (t .0))
     tell-link Absent q t = ap (passesUnder z h Aps f s (link (s .sender))) (sym t)
 
-  tell-read-aps : (r : Reading) → reading z Aps f g ≡ r → ((n : ℕ) → r ≡ plain n → ⊥) → A (aps.openedRead z b f o r) ≡ passesRead z h Aps f r
+  tell-read-aps : (r : Reading) → reading z Aps f g ≡ r → ((n : ℕ) → r ≡ plain n → ⊥)
+      → A (aps.openedRead z b f o r) ≡ passesRead z h Aps f r
   unfolding aps.openedRead passesRead
   tell-read-aps (refused n) e ne = refl
   tell-read-aps (plain n) e ne = absurd (ne n refl)
@@ -251,7 +263,8 @@ module _ (z : Settings) (x : Held) (h : List Event) (w : Stands z x h) (f : List
 
   -- ---- either layer
 
-  pub tell : (l : Layer) → ((n : ℕ) → reading z l f g ≡ plain n → ⊥) → not (refuses (step z (opening l f g o) x .reply)) ≡ passes z h l f g o
+  pub tell : (l : Layer) → ((n : ℕ) → reading z l f g ≡ plain n → ⊥)
+      → not (refuses (step z (opening l f g o) x .reply)) ≡ passes z h l f g o
   tell Network ne = tell-network (λ n e. ne n (given-none z f g ∙ e))
   tell Aps ne = tell-aps ne
 
@@ -261,7 +274,7 @@ module _ (z : Settings) (x : Held) (h : List Event) (w : Stands z x h) (f : List
 
   pub rightly : (l : Layer) (r : Reading) → reading z l f g ≡ r → Rightly r (step z (opening l f g o) x .reply) (passes z h l f g o)
   rightly l (secured s) e = tell l (λ n q. plain-not n s (sym q ∙ e))
-  rightly l (refused k) e = tell l (λ n q. let never : _≡_ {A = ℕ} 0 1 = (let u : plain n ≡ refused k = sym q ∙ e in cc) in absurd (omega arith))
+  rightly l (refused k) e = tell l (λ n q. plain-refused n k (sym q ∙ e))
   rightly l (plain n) e = clear l n e
 
 pub second : (z : Settings) (own : ℕ) → Second z (replies z own)

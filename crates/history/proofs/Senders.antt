@@ -62,7 +62,7 @@ module _ (z : Settings) {al fl : List ℕ} {opened : ℕ → ℕ → List ℕ} {
     own-row r e =
         let g = first-found (rowIs al a) m (i * m) r e in
         let at-r : getD al r 0 ≡ a = eqb-true _ _ (g .passes) in
-        let nz : getD al r 0 ≡ 0 → ⊥ = λ zz. az (sym at-r ∙ zz) in
+        let nz : getD al r 0 ≡ 0 → ⊥ = λ u. az (sym at-r ∙ u) in
         record {
           within = (g .low, g .high);
           was = inl at-r;
@@ -93,7 +93,9 @@ module _ (z : Settings) {al fl : List ℕ} {opened : ℕ → ℕ → List ℕ} {
 
     -- "There is room if the sender was opened .. or if fewer .. were."
     pub room-told : there (rowFor z (lists al fl) i a) ≡ (if member a (senders i) then true else ltb (length (senders i)) m)
-    room-told = ap there row-for ∙ go (placeOf m al i a) refl ∙ ap (λ (t : Bool). if t then true else ltb (length (senders i)) m) (w .known i a i< az)
+    room-told =
+        ap there row-for ∙ go (placeOf m al i a) refl
+        ∙ ap (λ (t : Bool). if t then true else ltb (length (senders i)) m) (w .known i a i< az)
       where
         free : (p : Place) → placeOf m al i 0 ≡ p → there p ≡ ltb (length (senders i)) m
         free (At r) e =
@@ -104,7 +106,8 @@ module _ (z : Settings) {al fl : List ℕ} {opened : ℕ → ℕ → List ℕ} {
             sym (le-ltb (length (senders i)) m
             (omega (arith, w .used i i<, count-all (inUse al) m (i * m) (λ k c d. ap not (first-none (rowIs al 0) m (i * m) e k c d)))))
 
-        go : (p : Place) → placeOf m al i a ≡ p → there (orFree z (lists al fl) i p) ≡ (if there p then true else ltb (length (senders i)) m)
+        go : (p : Place) → placeOf m al i a ≡ p
+            → there (orFree z (lists al fl) i p) ≡ (if there p then true else ltb (length (senders i)) m)
         go (At q) f = refl
         go Absent f = ap there (row-there 0) ∙ free (placeOf m al i 0) refl
 
@@ -119,9 +122,9 @@ module _ (z : Settings) {al fl : List ℕ} {opened : ℕ → ℕ → List ℕ} {
         (ap (floorAt (set fl r (n + 1))) place ∙ getD-set-same fl r (n + 1) 0 (omega (arith, in-floors)) ∙ sym (bound-more n (opened i a) h)
         ∙ ap bound (sym (both-same i a (n ∷ opened i a) (opened i a))))
         elsewhere
-        (ap there place ∙ sym (ap (member a) (pick-same i (a ∷ less a (senders i)) (senders i)) ∙ pick-same a true (member a (less a (senders i)))))
+        (ap there place ∙ sym (ap (member a) here ∙ pick-same a true (member a (less a (senders i)))))
         (λ j ne. ap length (pick-else i j (a ∷ less a (senders j)) (senders j) ne))
-        (omega (arith, ap length (pick-same i (a ∷ less a (senders i)) (senders i)), length-less a (senders i) (w .distinct i i<), ap bit (t .uses), ap bit now-used))
+        (omega (arith, ap length here, length-less a (senders i) (w .distinct i i<), ap bit (t .uses), ap bit now-used))
         alone
       where
         t : Takes r
@@ -132,6 +135,9 @@ module _ (z : Settings) {al fl : List ℕ} {opened : ℕ → ℕ → List ℕ} {
 
         senders' : ℕ → List ℕ
         senders' = λ j. if eqb i j then a ∷ less a (senders j) else senders j
+
+        here : senders' i ≡ a ∷ less a (senders i)
+        here = pick-same i (a ∷ less a (senders i)) (senders i)
 
         in-floors : r < length fl
         in-floors = omega (arith, slot-within m i i<, w .floors, t .within)
@@ -174,9 +180,9 @@ module _ (z : Settings) {al fl : List ℕ} {opened : ℕ → ℕ → List ℕ} {
         (λ j b el. both-else i j a b [] (opened j b) el)
         (ap (floorAt (set fl r 0)) place ∙ ap bound (sym (both-same i a [] (opened i a))))
         elsewhere
-        (ap there place ∙ sym (ap (member a) (pick-same i (less a (senders i)) (senders i)) ∙ member-less a (senders i)))
+        (ap there place ∙ sym (ap (member a) here ∙ member-less a (senders i)))
         (λ j ne. ap length (pick-else i j (less a (senders j)) (senders j) ne))
-        (omega (arith, ap length (pick-same i (less a (senders i)) (senders i)), length-less a (senders i) (w .distinct i i<), ap bit (t .uses), ap bit now-free))
+        (omega (arith, ap length here, length-less a (senders i) (w .distinct i i<), ap bit (t .uses), ap bit now-free))
         alone
       where
         t : Takes r
@@ -188,6 +194,9 @@ module _ (z : Settings) {al fl : List ℕ} {opened : ℕ → ℕ → List ℕ} {
         senders' : ℕ → List ℕ
         senders' = λ j. if eqb i j then less a (senders j) else senders j
 
+        here : senders' i ≡ less a (senders i)
+        here = pick-same i (less a (senders i)) (senders i)
+
         now-is : getD (set al r 0) r 0 ≡ 0
         now-is = getD-set-same al r 0 0 (omega (arith, slot-within m i i<, w .addrs, t .within))
 
@@ -197,7 +206,7 @@ module _ (z : Settings) {al fl : List ℕ} {opened : ℕ → ℕ → List ℕ} {
         place : placeOf m (set al r 0) i a ≡ Absent
         place =
             first-nowhere (rowIs (set al r 0) a) m (i * m)
-            (λ k c d. ⊎-elim (λ (g : k ≡ r). rw g (ap (λ (y : ℕ). eqb y a) now-is ∙ ne-eqb 0 a (λ zz. az (sym zz))))
+            (λ k c d. ⊎-elim (λ (g : k ≡ r). rw g (ap (λ (y : ℕ). eqb y a) now-is ∙ ne-eqb 0 a (λ u. az (sym u))))
             (λ (g : k ≡ r → ⊥). ne-eqb _ a (λ f. t .others k (c, d) g (sym (getD-set-other al r k 0 0 g) ∙ f))) (same-or k r))
 
         elsewhere : (j b : ℕ) → (j ≡ i → b ≡ a → ⊥) → member b (senders' j) ≡ member b (senders j)
@@ -223,13 +232,15 @@ module _ (z : Settings) {al fl : List ℕ} {opened : ℕ → ℕ → List ℕ} {
         addrs = freed-length al (i * m) m in-addrs ∙ w .addrs;
         floors = freed-length fl (i * m) m in-floors ∙ w .floors;
         once = λ j j< r q inr inq e nz. by j (λ (f : j ≡ i). absurd (nz (zeros r (rw (← f) inr))))
-            (λ ne. w .once j j< r q inr inq (sym (kept j j< ne r inr) ∙ e ∙ kept j j< ne q inq) (λ zz. nz (kept j j< ne r inr ∙ zz)));
+            (λ ne. w .once j j< r q inr inq (sym (kept j j< ne r inr) ∙ e ∙ kept j j< ne q inq) (λ u. nz (kept j j< ne r inr ∙ u)));
         floor = λ j b j< bz. by j (λ (f : j ≡ i). rw f (ap (floorAt gl) (nowhere b bz) ∙ sym (ap bound (pick-same i [] (opened i b)))))
-            (λ ne. ap (floorAt gl) (places j j< ne b) ∙ floors j j< ne b ∙ w .floor j b j< bz ∙ ap bound (sym (pick-else i j [] (opened j b) ne)));
+            (λ ne. ap (floorAt gl) (places j j< ne b) ∙ floors j j< ne b ∙ w .floor j b j< bz
+            ∙ ap bound (sym (pick-else i j [] (opened j b) ne)));
         known = λ j b j< bz. by j (λ (f : j ≡ i). rw f (ap there (nowhere b bz) ∙ sym (ap (member b) (pick-same i [] (senders i)))))
             (λ ne. ap there (places j j< ne b) ∙ w .known j b j< bz ∙ ap (member b) (sym (pick-else i j [] (senders j) ne)));
         used = λ j j<. by j
-            (λ (f : j ≡ i). rw f (count-none (inUse bl) m (i * m) (λ k c d. ap (λ (y : ℕ). not (eqb y 0)) (zeros k (c, d))) ∙ sym (ap length (pick-same i [] (senders i)))))
+            (λ (f : j ≡ i). rw f (count-none (inUse bl) m (i * m) (λ k c d. ap (λ (y : ℕ). not (eqb y 0)) (zeros k (c, d)))
+            ∙ sym (ap length (pick-same i [] (senders i)))))
             (λ ne. count-ext (inUse bl) (inUse al) m (j * m) (λ k c d. ap (λ (y : ℕ). not (eqb y 0)) (kept j j< ne k (c, d))) ∙ w .used j j<
             ∙ ap length (sym (pick-else i j [] (senders j) ne)));
         distinct = λ j j<. alone j j< (eqb i j);
@@ -262,7 +273,7 @@ module _ (z : Settings) {al fl : List ℕ} {opened : ℕ → ℕ → List ℕ} {
       nowhere : (b : ℕ) → (b ≡ 0 → ⊥) → placeOf m (freed al (i * m) m) i b ≡ Absent
       nowhere b bz =
           first-nowhere (rowIs (freed al (i * m) m) b) m (i * m)
-          (λ k c d. ap (λ (y : ℕ). eqb y b) (zeros k (c, d)) ∙ ne-eqb 0 b (λ zz. bz (sym zz)))
+          (λ k c d. ap (λ (y : ℕ). eqb y b) (zeros k (c, d)) ∙ ne-eqb 0 b (λ u. bz (sym u)))
 
       places : (j : ℕ) → j < 2 → (j ≡ i → ⊥) → (b : ℕ) → placeOf m (freed al (i * m) m) j b ≡ placeOf m al j b
       places j j< ne b =

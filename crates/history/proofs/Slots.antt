@@ -38,7 +38,7 @@ unfolding holds carries
 keeps-same s none n k w = ap (λ (t : Bool). both (both t (eqb (s .seq) n)) (eqList (s .key) (k .octets))) w
 keeps-same s (key q j) n k w =
     ap (λ (t : Bool). both (both t (eqb (s .seq) n)) (eqList (s .key) (k .octets))) (w .0)
-    ∙ ap₂ (λ (y : ℕ) (zz : List ℕ). both (eqb y n) (eqList zz (k .octets))) (w .1) (w .2)
+    ∙ ap₂ (λ (y : ℕ) (l : List ℕ). both (eqb y n) (eqList l (k .octets))) (w .1) (w .2)
 
 pub record Slots (ss : List Slot) (keys : ℕ → Installation) : Type 0 where
   pub two : length ss ≡ 2

@@ -17,7 +17,7 @@ use Rattle.history.specs.Calls.{Call, install, switch, addLink, removeLi
 use Rattle.history.specs.Calls.{handedOut, exchanges}
 use Rattle.history.specs.Events.{Event, Installation, HeardFrame, slot, link, keyed, key, none, keyIn, sameKey, slotFor, without, heardIn}
 use Rattle.history.specs.Story.{installing, hearing, eventsOf, story}
-use Rattle.history.specs.Running.{Held, held, byLists, byBoard, byRows, byNetwork, byFrame, step, start, run, replies}
+use Rattle.history.specs.Running.{Held, held, Step, byLists, byBoard, byRows, byNetwork, byFrame, step, start, run, replies}
 use Rattle.history.proofs.Searches.{clash}
 use Rattle.history.proofs.Counters.{bound, bound-more, counters, less, names, names-without, counters-gone, counters-other}
 use Rattle.history.proofs.Rows.{Rows, zeroes, rows-ext, rows-fresh}
@@ -84,8 +84,8 @@ given-none z f g = go (readHeader Network f)
 -- nobody's address is no sender's
 pub sender-some : (z : Settings) (l : Layer) (f : List ℕ) (g : ℕ) (s : Secured) → reading z l f g ≡ secured s → s .sender ≡ 0 → ⊥
 unfolding noAddress
-sender-some z Network f g s e zz = clash (ap noAddress zz) (secured-frame z Network f g s e .someone)
-sender-some z Aps f g s e zz = clash (ap noAddress zz) (secured-frame z Aps f g s e .someone)
+sender-some z Network f g s e u = clash (ap noAddress u) (secured-frame z Network f g s e .someone)
+sender-some z Aps f g s e u = clash (ap noAddress u) (secured-frame z Aps f g s e .someone)
 
 -- ---- one call
 
@@ -93,9 +93,16 @@ module _ (z : Settings) (x : Held) (h : List Event) (w : Stands z x h) where
   abbrev b : Board
   b = x .board
 
+  -- call c may end in y: what y leaves means what the call and y's reply tell
+  abbrev Ends : Call → Step → Type 0
+  Ends c y = Stands z (y .after) (eventsOf z h c (y .reply) ++ h)
+
+  abbrev After : Call → Type 0
+  After c = Ends c (step z c x)
+
   -- ---- network keys
 
-  pub stands-install : (i n : ℕ) (k : Key) → Stands z (step z (install i n k) x .after) (eventsOf z h (install i n k) (step z (install i n k) x .reply) ++ h)
+  pub stands-install : (i n : ℕ) (k : Key) → After (install i n k)
   unfolding requests.install
   stands-install i n k =
       choose P (not (listsFit z (x .lists))) _ _ (λ _. w) λ _.
@@ -104,7 +111,10 @@ module _ (z : Settings) (x : Held) (h : List Event) (w : Stands z x h) where
       choose P (holds (slotAt (b .slots) i) n k) _ _ (λ f. again (ltb-false 1 i e) f) (λ f. anew (ltb-false 1 i e) f)
     where
       P : Left → Type 0
-      P r = Stands z (byLists r .after) (eventsOf z h (install i n k) (byLists r .reply) ++ h)
+      P r = Ends (install i n k) (byLists r)
+
+      new : Held
+      new = held (withSlot b i (requests.installed n k)) (requests.rowsFreed z (x .lists) i)
 
       told : i ≤ 1 → holds (slotAt (b .slots) i) n k ≡ sameKey (keyIn h (slot i)) (key n k)
       told l = keeps-same (slotAt (b .slots) i) (keyIn h (slot i)) n k (w .slots .keeps i (omega arith))
@@ -112,7 +122,7 @@ module _ (z : Settings) (x : Held) (h : List Event) (w : Stands z x h) where
       again : i ≤ 1 → holds (slotAt (b .slots) i) n k ≡ true → Stands z x (installing h (slot i) (key n k) ++ h)
       again l f = rw (sym (told l) ∙ f) w
 
-      put : i < 2 → Stands z (held (withSlot b i (requests.installed n k)) (requests.rowsFreed z (x .lists) i)) (keyed (slot i) (key n k) ∷ h)
+      put : i < 2 → Stands z new (keyed (slot i) (key n k) ∷ h)
       put l =
           record {
             slots = install-slot (w .slots) i n k l;
@@ -121,19 +131,18 @@ module _ (z : Settings) (x : Held) (h : List Event) (w : Stands z x h) where
             links = w .links;
           }
 
-      anew : i ≤ 1 → holds (slotAt (b .slots) i) n k ≡ false
-          → Stands z (held (withSlot b i (requests.installed n k)) (requests.rowsFreed z (x .lists) i)) (installing h (slot i) (key n k) ++ h)
+      anew : i ≤ 1 → holds (slotAt (b .slots) i) n k ≡ false → Stands z new (installing h (slot i) (key n k) ++ h)
       anew l f = rw (sym (told l) ∙ f) (put (omega arith))
 
-  pub stands-switch : (n : ℕ) → Stands z (step z (switch n) x .after) (eventsOf z h (switch n) (step z (switch n) x .reply) ++ h)
+  pub stands-switch : (n : ℕ) → After (switch n)
   unfolding requests.switch
   stands-switch n = go (slotOf (b .slots) n)
     where
-      go : (p : Place) → Stands z (byBoard x (requests.switchTo b p) .after) (eventsOf z h (switch n) (byBoard x (requests.switchTo b p) .reply) ++ h)
+      go : (p : Place) → Ends (switch n) (byBoard x (requests.switchTo b p))
       go (At i) = record { slots = w .slots; rows = w .rows; links = w .links }
       go Absent = w
 
-  pub stands-forget : (i a : ℕ) → Stands z (step z (forget i a) x .after) (eventsOf z h (forget i a) (step z (forget i a) x .reply) ++ h)
+  pub stands-forget : (i a : ℕ) → After (forget i a)
   unfolding requests.forget
   stands-forget i a =
       choose P (not (listsFit z (x .lists))) _ _ (λ _. w) λ _.
@@ -147,7 +156,9 @@ module _ (z : Settings) (x : Held) (h : List Event) (w : Stands z x h) where
         where
           by : (t u : Bool) → eqb a c ≡ u → (if both t u then [] else counters c (heardIn h (slot j)))
               ≡ counters c (if t then without a (heardIn h (slot j)) else heardIn h (slot j))
-          by true true f = sym (ap (λ (y : ℕ). counters y (without a (heardIn h (slot j)))) (sym (eqb-true a c f)) ∙ counters-gone a (heardIn h (slot j)))
+          by true true f =
+              sym (ap (λ (y : ℕ). counters y (without a (heardIn h (slot j)))) (sym (eqb-true a c f))
+              ∙ counters-gone a (heardIn h (slot j)))
           by true false f = sym (counters-other a c (heardIn h (slot j)) (eqb-false a c f))
           by false u f = refl
 
@@ -161,7 +172,7 @@ module _ (z : Settings) (x : Held) (h : List Event) (w : Stands z x h) where
           by false = refl
 
       P : Freed → Type 0
-      P r = Stands z (byRows x r .after) (eventsOf z h (forget i a) (byRows x r .reply) ++ h)
+      P r = Ends (forget i a) (byRows x r)
 
       go : i ≤ 1 → (a ≡ 0 → ⊥) → (p : Place) → findRow (x .lists .addrs) (i * z .rows) (z .rows) a ≡ p → P (requests.forgetAt (x .lists) p)
       go l az (At r) e =
@@ -175,12 +186,12 @@ module _ (z : Settings) (x : Held) (h : List Event) (w : Stands z x h) where
 
   -- ---- link keys
 
-  pub stands-add : (a : ℕ) (k : Key) → Stands z (step z (addLink a k) x .after) (eventsOf z h (addLink a k) (step z (addLink a k) x .reply) ++ h)
+  pub stands-add : (a : ℕ) (k : Key) → After (addLink a k)
   unfolding requests.addLink
   stands-add a k = choose P (noAddress a) _ _ (λ _. w) λ _. place (linkOf (b .links) a) refl (w .links .tells a)
     where
       P : Changed → Type 0
-      P r = Stands z (byBoard x r .after) (eventsOf z h (addLink a k) (byBoard x r .reply) ++ h)
+      P r = Ends (addLink a k) (byBoard x r)
 
       now : pairs (added a k) a ≡ true
       now = pair-mine (added a k) a refl refl
@@ -200,23 +211,27 @@ module _ (z : Settings) (x : Held) (h : List Event) (w : Stands z x h) where
           })
 
       new : (p : Place) → freeLink (b .links) ≡ p → linkOf (b .links) a ≡ Absent → keyIn h (link a) ≡ none → P (requests.addNew b a k p)
-      new (At i) e f t = let g = free (w .links) a i f e in put i (g .0) (g .1) (g .2) (ap (λ (y : Installation). sameKey y (key 0 k)) t)
+      new (At i) e f t =
+          let g = free (w .links) a i f e in
+          put i (g .0) (g .1) (g .2) (ap (λ (y : Installation). sameKey y (key 0 k)) t)
       new Absent e f t = w
 
-      place : (p : Place) → linkOf (b .links) a ≡ p → Tells (b .links) p (keyIn h (link a)) (counters a (heardIn h (link a))) → P (requests.addTo b a k p)
+      place : (p : Place) → linkOf (b .links) a ≡ p → Tells (b .links) p (keyIn h (link a)) (counters a (heardIn h (link a)))
+          → P (requests.addTo b a k p)
       place (At i) e t =
-          let told : sameKey (keyIn h (link a)) (key 0 k) ≡ eqList (linkAt (b .links) i .key) (k .octets) = ap (λ (y : Installation). sameKey y (key 0 k)) (t .0) in
+          let same : Bool = eqList (linkAt (b .links) i .key) (k .octets) in
+          let told : sameKey (keyIn h (link a)) (key 0 k) ≡ same = ap (λ (y : Installation). sameKey y (key 0 k)) (t .0) in
           let g = mine (w .links) a i e in
-          choose P (eqList (linkAt (b .links) i .key) (k .octets)) _ _ (λ f. rw (told ∙ f) w)
+          choose P same _ _ (λ f. rw (told ∙ f) w)
           (λ f. put i (g .low) (g .was) (g .others) (told ∙ f))
       place Absent e t = new (freeLink (b .links)) refl e t
 
-  pub stands-remove : (a : ℕ) → Stands z (step z (removeLink a) x .after) (eventsOf z h (removeLink a) (step z (removeLink a) x .reply) ++ h)
+  pub stands-remove : (a : ℕ) → After (removeLink a)
   unfolding requests.removeLink
   stands-remove a = choose P (eqb a 0) _ _ (λ _. w) λ _. place (linkOf (b .links) a) refl
     where
       P : Changed → Type 0
-      P r = Stands z (byBoard x r .after) (eventsOf z h (removeLink a) (byBoard x r .reply) ++ h)
+      P r = Ends (removeLink a) (byBoard x r)
 
       place : (p : Place) → linkOf (b .links) a ≡ p → P (requests.removeAt b p)
       place (At i) e =
@@ -236,16 +251,21 @@ module _ (z : Settings) (x : Held) (h : List Event) (w : Stands z x h) where
   unfolding slotFor
   slot-for n = sym (slot-told (w .slots) n)
 
-  pub stands-network : (f : List ℕ) (g : ℕ) (o : List ℕ)
-      → Stands z (step z (opening Network f g o) x .after) (eventsOf z h (opening Network f g o) (step z (opening Network f g o) x .reply) ++ h)
+  pub stands-network : (f : List ℕ) (g : ℕ) (o : List ℕ) → After (opening Network f g o)
   unfolding floorOf
-  stands-network f g o = network.open-ways z b f (record { lists = x .lists; out = o }) P (λ n. w) (λ n p e. rw (given-none z f g ∙ e) w) passed
+  stands-network f g o = network.open-ways z b f lent P (λ n. w) (λ n p e. rw (given-none z f g ∙ e) w) passed
     where
-      P : Opening → Type 0
-      P r = Stands z (byNetwork x r .after) (eventsOf z h (opening Network f g o) (byNetwork x r .reply) ++ h)
+      lent : Lent
+      lent = record { lists = x .lists; out = o }
 
-      passed : (s : Secured) (i r n : ℕ) (p : List ℕ) → network.Passed z b f (record { lists = x .lists; out = o }) s i r
-          → Stands z (held b (lists (set (x .lists .addrs) r (s .sender)) (set (x .lists .floors) r (s .counter + 1)))) (hearing h Network f (take n p) (reading z Network f g) ++ h)
+      P : Opening → Type 0
+      P r = Ends (opening Network f g o) (byNetwork x r)
+
+      left : Secured → ℕ → Held
+      left s r = held b (lists (set (x .lists .addrs) r (s .sender)) (set (x .lists .floors) r (s .counter + 1)))
+
+      passed : (s : Secured) (i r n : ℕ) (p : List ℕ) → network.Passed z b f lent s i r
+          → Stands z (left s r) (hearing h Network f (take n p) (reading z Network f g) ++ h)
       passed s i r n p t =
           rw (given-none z f g ∙ t .read, slot-for (s .sequence), t .found)
           (record {
@@ -258,7 +278,8 @@ module _ (z : Settings) (x : Held) (h : List Event) (w : Stands z x h) where
           new : HeardFrame
           new = record { sender = s .sender; counter = s .counter; octets = f; plain = take n p }
 
-          more : (t : Bool) (j c : ℕ) → (if both t (eqb (s .sender) c) then s .counter ∷ counters c (heardIn h (slot j)) else counters c (heardIn h (slot j)))
+          more : (t : Bool) (j c : ℕ)
+              → (if both t (eqb (s .sender) c) then s .counter ∷ counters c (heardIn h (slot j)) else counters c (heardIn h (slot j)))
               ≡ counters c (if t then new ∷ heardIn h (slot j) else heardIn h (slot j))
           more true j c = refl
           more false j c = refl
@@ -270,16 +291,17 @@ module _ (z : Settings) (x : Held) (h : List Event) (w : Stands z x h) where
           az = sender-some z Network f 0 s (t .read)
 
           least : bound (counters (s .sender) (heardIn h (slot i))) ≤ s .counter
-          least = omega (arith, t .least, w .rows .floor i (s .sender) i< az, ap (floorAt (x .lists .floors)) (row-there z (w .rows) i i< (s .sender)))
+          least =
+              let row = ap (floorAt (x .lists .floors)) (row-there z (w .rows) i i< (s .sender)) in
+              omega (arith, t .least, w .rows .floor i (s .sender) i< az, row)
 
-  pub stands-aps : (f : List ℕ) (g : ℕ) (o : List ℕ)
-      → Stands z (step z (opening Aps f g o) x .after) (eventsOf z h (opening Aps f g o) (step z (opening Aps f g o) x .reply) ++ h)
+  pub stands-aps : (f : List ℕ) (g : ℕ) (o : List ℕ) → After (opening Aps f g o)
   unfolding pairs
   stands-aps f g o = aps.open-ways z b f g o P (λ n. w) (λ n e. rw e w)
       (λ s i t. passed s i (s .header + length (t .message)) (onto (plainFrame Aps f s (t .message)) o) t)
     where
       P : Framed → Type 0
-      P r = Stands z (byFrame x r .after) (eventsOf z h (opening Aps f g o) (byFrame x r .reply) ++ h)
+      P r = Ends (opening Aps f g o) (byFrame x r)
 
       passed : (s : Secured) (i n : ℕ) (p : List ℕ) → aps.Passed z b f g s i
           → Stands z (held (withFloor b i (s .counter + 1)) (x .lists)) (hearing h Aps f (take n p) (reading z Aps f g) ++ h)
@@ -304,7 +326,9 @@ module _ (z : Settings) (x : Held) (h : List Event) (w : Stands z x h) where
           g' = mine (w .links) a i (t .found)
 
           told : Tells (b .links) (At i) (keyIn h (link a)) (counters a (heardIn h (link a)))
-          told = subst (λ (p : Place). Tells (b .links) p (keyIn h (link a)) (counters a (heardIn h (link a)))) (t .found) (w .links .tells a)
+          told =
+              subst (λ (p : Place). Tells (b .links) p (keyIn h (link a)) (counters a (heardIn h (link a)))) (t .found)
+              (w .links .tells a)
 
           pairing : pairs entry a ≡ true
           pairing = g' .pairing
@@ -320,7 +344,7 @@ module _ (z : Settings) (x : Held) (h : List Event) (w : Stands z x h) where
           keys-so c = go (eqb a c) refl
             where
               go : (u : Bool) → eqb a c ≡ u → (if u then key 0 (theKey (linkAt (b .links) i .key)) else keyIn h (link c)) ≡ keyIn h (link c)
-              go true e = sym (told .0) ∙ ap (λ (zz : ℕ). keyIn h (link zz)) (eqb-true a c e)
+              go true e = sym (told .0) ∙ ap (λ (y : ℕ). keyIn h (link y)) (eqb-true a c e)
               go false e = refl
 
           opened-so : (c : ℕ) → (if eqb a c then s .counter ∷ counters a (heardIn h (link a)) else counters c (heardIn h (link c)))
@@ -329,42 +353,43 @@ module _ (z : Settings) (x : Held) (h : List Event) (w : Stands z x h) where
             where
               go : (u : Bool) → eqb a c ≡ u → (if u then s .counter ∷ counters a (heardIn h (link a)) else counters c (heardIn h (link c)))
                   ≡ counters c (if u then new ∷ heardIn h (link c) else heardIn h (link c))
-              go true e = rw e (ap (λ (zz : ℕ). s .counter ∷ counters zz (heardIn h (link zz))) (eqb-true a c e))
+              go true e = rw e (ap (λ (y : ℕ). s .counter ∷ counters y (heardIn h (link y))) (eqb-true a c e))
               go false e = refl
 
   -- ---- sealing
 
-  pub stands-seal : (l : Layer) (f : List ℕ) (a k : ℕ) (o : List ℕ)
-      → Stands z (step z (sealing l f a k o) x .after) (eventsOf z h (sealing l f a k o) (step z (sealing l f a k o) x .reply) ++ h)
+  pub stands-seal : (l : Layer) (f : List ℕ) (a k : ℕ) (o : List ℕ) → After (sealing l f a k o)
   unfolding spent
   stands-seal Network f a k o =
-      network-seals z b f o (λ (r : Framed). Stands z (byFrame x r .after) (eventsOf z h (sealing Network f a k o) (byFrame x r .reply) ++ h)) (λ n. w)
+      network-seals z b f o (λ (r : Framed). Ends (sealing Network f a k o) (byFrame x r)) (λ n. w)
       (λ n p t. record { slots = w .slots; rows = w .rows; links = w .links })
   stands-seal Aps f a k o =
-      aps-seals z b f o (λ (r : Framed). Stands z (byFrame x r .after) (eventsOf z h (sealing Aps f a k o) (byFrame x r .reply) ++ h)) (λ n. w) a k
+      aps-seals z b f o (λ (r : Framed). Ends (sealing Aps f a k o) (byFrame x r)) (λ n. w) a k
       (λ n p t. record { slots = w .slots; rows = w .rows; links = w .links })
 
   -- the writer moves the APS counter, and nothing else
-  pub stands-write : (a : Bool) (c : Command) (k r o : List ℕ) → Stands z (step z (writing a c k r o) x .after) (eventsOf z h (writing a c k r o) (step z (writing a c k r o) x .reply) ++ h)
+  pub stands-write : (a : Bool) (c : Command) (k r o : List ℕ) → After (writing a c k r o)
   unfolding apsRaised
   stands-write a c k r o =
-      writes z b a c k r o (λ (w : Framed). Stands z (byFrame x w .after) (eventsOf z h (writing a c k r o) (byFrame x w .reply) ++ h)) (λ n. w)
+      writes z b a c k r o (λ (y : Framed). Ends (writing a c k r o) (byFrame x y)) (λ n. w)
       (λ n p. record { slots = w .slots; rows = w .rows; links = w .links })
 
-pub stands-step : (z : Settings) (c : Call) (x : Held) (h : List Event) → Stands z x h → Stands z (step z c x .after) (eventsOf z h c (step z c x .reply) ++ h)
-stands-step z (install i n k) x h w = stands-install z x h w i n k
-stands-step z (switch n) x h w = stands-switch z x h w n
-stands-step z (addLink a k) x h w = stands-add z x h w a k
-stands-step z (removeLink a) x h w = stands-remove z x h w a
-stands-step z (forget i a) x h w = stands-forget z x h w i a
-stands-step z (opening Network f g o) x h w = stands-network z x h w f g o
-stands-step z (opening Aps f g o) x h w = stands-aps z x h w f g o
-stands-step z (sealing l f a k o) x h w = stands-seal z x h w l f a k o
-stands-step z (looking Network f g) x h w = w
-stands-step z (looking Aps f g) x h w = w
-stands-step z (writing a c k r o) x h w = stands-write z x h w a c k r o
+  -- ---- any call
+
+  pub stands-step : (c : Call) → After c
+  stands-step (install i n k) = stands-install i n k
+  stands-step (switch n) = stands-switch n
+  stands-step (addLink a k) = stands-add a k
+  stands-step (removeLink a) = stands-remove a
+  stands-step (forget i a) = stands-forget i a
+  stands-step (opening Network f g o) = stands-network f g o
+  stands-step (opening Aps f g o) = stands-aps f g o
+  stands-step (sealing l f a k o) = stands-seal l f a k o
+  stands-step (looking Network f g) = w
+  stands-step (looking Aps f g) = w
+  stands-step (writing a c k r o) = stands-write a c k r o
 
 -- after any calls
 pub stands : (z : Settings) (own : ℕ) (cs : List Call) → Stands z (run z own cs) (story z (exchanges (replies z own) cs))
 stands z own [] = stands-fresh z own
-stands z own (c ∷ cs) = stands-step z c (run z own cs) (story z (exchanges (replies z own) cs)) (stands z own cs)
+stands z own (c ∷ cs) = stands-step z (run z own cs) (story z (exchanges (replies z own) cs)) (stands z own cs) c

@@ -79,8 +79,9 @@ module _ (z : Settings) (b : Board) (f o : List ℕ) (P : Framed → Type 0) (do
 
 -- ---- the writer: a refusal, or a frame and the APS counter raised
 
-pub writes : (z : Settings) (b : Board) (a : Bool) (c : Command) (k r o : List ℕ) (P : Framed → Type 0) → ((n : ℕ) → P (framed (turnedDown n) b o))
-    → ((n : ℕ) (p : List ℕ) → P (framed (written n) (apsRaised b) p)) → P (writeCommand z b a c k r o)
+pub writes : (z : Settings) (b : Board) (a : Bool) (c : Command) (k r o : List ℕ) (P : Framed → Type 0)
+    → ((n : ℕ) → P (framed (turnedDown n) b o)) → ((n : ℕ) (p : List ℕ) → P (framed (written n) (apsRaised b) p))
+    → P (writeCommand z b a c k r o)
 unfolding writeCommand
 writes z b a c k r o P down made =
     choose P (ltb (length o) longestAps) _ _ (λ _. down 1) λ _.

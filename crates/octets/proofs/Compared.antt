@@ -4,13 +4,12 @@ use mathlib.Core.Path.{_≡_, refl, sym, ap, ap₂, _∙_}
 use mathlib.Core.Bool.{Bool, true, false}
 use mathlib.Core.List.{List, [], _∷_}
 use Prim.Native.Nat.{ℕ, _+_, _<_, _≤_}
-use native.Mathlib.Numerals.{add-one}
 use lib.Bits.{bitXor, bitOr, xor-self}
 use lib.Dec.{eqb}
 use lib.ListN.{length, getD, drop, drop-of-length-le}
-use lib.Seq.{drop-cons}
 use borrow.Author.Tests.{eqb-true, eq-eqb}
 use Rattle.octets.proofs.Choices.{both-assoc, both-true}
+use Rattle.octets.proofs.Tabs.{drop-step}
 use Rattle.octets.proofs.Xor.{xor-zero, or-zero}
 use Rattle.octets.specs.Choice.{both}
 use Rattle.octets.specs.Lists.{eqList}
@@ -55,12 +54,9 @@ pub same-more : (a b : List ℕ) (i p : ℕ) → i < length a → i < length b
     → both (eqb p 0) (eqList (drop i a) (drop i b))
     ≡ both (eqb (bitOr p (bitXor (getD a i 0) (getD b i 0))) 0) (eqList (drop (i + 1) a) (drop (i + 1) b))
 same-more a b i p h k =
-    ap₂ (λ (u v : List ℕ). both (eqb p 0) (eqList u v)) (one a i h) (one b i k)
+    ap₂ (λ (u v : List ℕ). both (eqb p 0) (eqList u v)) (drop-step a i h) (drop-step b i k)
     ∙ sym (both-assoc (eqb p 0) (eqb (getD a i 0) (getD b i 0)) (eqList (drop (i + 1) a) (drop (i + 1) b)))
     ∙ ap (λ (t : Bool). both t (eqList (drop (i + 1) a) (drop (i + 1) b))) (sym (apart-more p (getD a i 0) (getD b i 0)))
-  where
-    one : (l : List ℕ) (i : ℕ) → i < length l → drop i l ≡ getD l i 0 ∷ drop (i + 1) l
-    one l i h = rw (add-one, drop-cons l i 0)
 
 pub same-done : (a b : List ℕ) (i p : ℕ) → length a ≤ i → length b ≤ i → both (eqb p 0) (eqList (drop i a) (drop i b)) ≡ eqb p 0
 same-done a b i p h k =

@@ -1,12 +1,14 @@
--- `tab`, the list of a function's first values: how long it is, what stands where, how it is cut, joined and laid; `onto`'s length.
+-- `tab`, the list of a function's first values: how long it is, what stands where, how it is cut, joined and laid; `onto`'s length;
+-- and a list from place i on, which a loop reads an octet at a time.
 -- Assumes nothing.
 use mathlib.Core.Path.{_≡_, refl, sym, ap, ap₂, _∙_}
 use mathlib.Core.List.{List, _∷_, _++_}
 use Prim.Native.Nat.{ℕ, zero, suc, _+_, _-_, _≤_, _<_}
 use native.Mathlib.Nat.{le-of-suc-le-suc, not-suc-le-zero, zero-add, suc-add}
+use native.Mathlib.Numerals.{add-one}
 use native.Mathlib.Omega.{arith}
 use lib.ListN.{length, getD, take, drop, length-append, length-drop, List·getD-eq-default}
-use lib.Seq.{ext-getD, drop-drop, paste, take-at, drop-at}
+use lib.Seq.{ext-getD, drop-drop, drop-cons, paste, take-at, drop-at}
 use Rattle.octets.specs.Lists.{at, tab, onto}
 
 module _ {A : Type 0} where
@@ -51,6 +53,10 @@ at-tab-out n f i h = List·getD-eq-default (tab n f) 0 (rw length-tab h)
 
 pub length-onto : (s o : List ℕ) → length s ≤ length o → length (onto s o) ≡ length o
 length-onto s o h = simp (length-append, length-drop) (omega arith)
+
+-- what is left of a list from place i on is the octet there and what is left from the next place on
+pub drop-step : (l : List ℕ) (i : ℕ) → i < length l → drop i l ≡ getD l i 0 ∷ drop (i + 1) l
+drop-step l i h = rw (add-one, drop-cons l i 0)
 
 -- a piece b written behind the first n values of f, where the piece is f's next m values
 pub paste-tab : (n m : ℕ) (f : ℕ → ℕ) (o b : List ℕ) → take m b ≡ tab m (λ i. f (n + i))

@@ -114,7 +114,8 @@ module _ (z : Settings) (key : Key) (q : ℕ) {l : Layer} {f : List ℕ} {h k n 
   pub read-again : (a : ℕ) → reading z l (sealedFrame z key l k n s q f h) a ≡ secured (announcing h k n s q)
   read-again a =
       ap (λ (g : List ℕ). reading z l g a) behind
-      ∙ read-sealed z l f h (p .unsecured) (p .octets) k n s q a body low (suited-wire l k (p .suited)) (p .counter) (p .sender) (p .someone)
+      ∙ read-sealed z l f h (p .unsecured) (p .octets) k n s q a body low (suited-wire l k (p .suited)) (p .counter) (p .sender)
+      (p .someone)
       (omega (arith, seal-length (aes128 (key .octets)) (z .tag) (nonceOf z s n (wireControl k)) (authentic z l x f h) (drop h f)))
       ∙ ap (λ (m : ℕ). secured (fieldsOf h m (wireControl k) n s (if eqb k 1 then q else 0))) (sent-length k n s q)
 
@@ -135,7 +136,8 @@ module _ (z : Settings) (key : Key) (q : ℕ) {l : Layer} {f : List ℕ} {h k n 
         (authentic-in z l x f h (sentOctets k) (sent-length k n s q) within (sealedFrame z key l k n s q f h)
         (ap (take (h + sentOctets k)) parts ∙ take-at both-headers body (h + sentOctets k) both-length))
         (ap (drop (h + sentOctets k)) parts ∙ drop-at both-headers body (h + sentOctets k) both-length)
-        ∙ open-seal (aes128 (key .octets)) (aes-blocky (key .octets)) (z .tag) (nonceOf z s n (wireControl k)) (authentic z l x f h) (drop h f) (tag-most (z .tag) (fair .tag))
+        ∙ open-seal (aes128 (key .octets)) (aes-blocky (key .octets)) (z .tag) (nonceOf z s n (wireControl k))
+        (authentic z l x f h) (drop h f) (tag-most (z .tag) (fair .tag))
 
     -- ---- by the routines, where the secured frame is not too long
 
@@ -197,8 +199,8 @@ aux-octets k n s q b d =
     go true = cons-octets q [] d nil-octets
     go false = nil-octets
 
-pub octets-again : {l : Layer} {f : List ℕ} {h k n s : ℕ} (z : Settings) (key : Key) (q : ℕ) → ToSeal l f h k n s → Octets (key .octets) → q < 256
-    → Octets (sealedFrame z key l k n s q f h)
+pub octets-again : {l : Layer} {f : List ℕ} {h k n s : ℕ} (z : Settings) (key : Key) (q : ℕ) → ToSeal l f h k n s
+    → Octets (key .octets) → q < 256 → Octets (sealedFrame z key l k n s q f h)
 unfolding sealedFrame sealedWith
 octets-again {l} {f} {h} {k} {n} {s} z key q p o b =
     append-octets (headers l (auxiliary k n s q) f h) _

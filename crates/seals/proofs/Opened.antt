@@ -44,7 +44,8 @@ pub tells-sound : (z : Settings) (f : List ℕ) (s : Secured) → Sound z f s �
 unfolding sound
 tells-sound z f s t = simp (le-leb _ _ (t .headed), le-leb _ _ (t .whole), le-leb _ _ (t .short))
 
-module _ (z : Settings) (fair : Fair z) (k : Key) (l : Layer) (f : List ℕ) (s : Secured) (o : List ℕ) (t : Sound z f s) (room : longest ≤ length o) where
+module _ (z : Settings) (fair : Fair z) (k : Key) (l : Layer) (f : List ℕ) (s : Secured) (o : List ℕ) (t : Sound z f s)
+    (room : longest ≤ length o) where
   abbrev both-headers : ℕ
   both-headers = s .header + s .aux
 
@@ -53,7 +54,8 @@ module _ (z : Settings) (fair : Fair z) (k : Key) (l : Layer) (f : List ℕ) (s 
 
   -- what the cipher was asked is what the definition asks
   pub asked : (w a n : List ℕ) → length w ≡ longest → a ≡ laid w f both-headers (authenticatedOf z f s) → n ≡ nonceFor z s
-      → opening (z .tag) (k .octets) n (take both-headers a) (drop both-headers f) (drop (s .header) o) ≡ openedOnto (messageOf z k f s) (drop (s .header) o)
+      → opening (z .tag) (k .octets) n (take both-headers a) (drop both-headers f) (drop (s .header) o)
+      ≡ openedOnto (messageOf z k f s) (drop (s .header) o)
   unfolding messageOf
   asked w a n e q en =
       let h = t .whole in
@@ -94,7 +96,8 @@ module _ (z : Settings) (fair : Fair z) (k : Key) (l : Layer) (f : List ℕ) (s 
   unfolding messageOf
   message-length m e =
       let h = t .whole in
-      valid-length (aes128 (k .octets)) (z .tag) (nonceFor z s) (authenticatedOf z f s) (bodyOf f s) m (omega (arith, length-drop both-headers f)) e
+      valid-length (aes128 (k .octets)) (z .tag) (nonceFor z s) (authenticatedOf z f s) (bodyOf f s) m
+      (omega (arith, length-drop both-headers f)) e
       ∙ ap (λ (n : ℕ). n - z .tag) (length-drop both-headers f)
 
   pub made-length : (n : ℕ) (y w : List ℕ) → product (made n) y ≡ openedOnto (messageOf z k f s) w → n ≡ length f - both-headers - z .tag
@@ -107,7 +110,7 @@ module _ (z : Settings) (fair : Fair z) (k : Key) (l : Layer) (f : List ℕ) (s 
           u ∙ message-length m q
       go invalid q g =
           let a : made n ≡ refused 9 = ap (λ (x : Product). x .answer) g in
-          let v : _≡_ {A = ℕ} 0 1 = cc in
+          let never : _≡_ {A = ℕ} 0 1 = cc in
           absurd (omega arith)
 
   -- the cipher made n octets
@@ -153,7 +156,8 @@ pub record Unseals (z : Settings) (k : Key) (f : List ℕ) (s : Secured) (o : Li
   pub outcome : product (counted r) (drop (s .header) p) ≡ openedOnto (messageOf z k f s) (drop (s .header) o)
 
 -- what opening then answers
-module _ {z : Settings} {k : Key} {f : List ℕ} {s : Secured} {o : List ℕ} {r : Answer} {p : List ℕ} (fair : Fair z) (u : Unseals z k f s o r p) (l : Layer) where
+module _ {z : Settings} {k : Key} {f : List ℕ} {s : Secured} {o : List ℕ} {r : Answer} {p : List ℕ} (fair : Fair z)
+    (u : Unseals z k f s o r p) (l : Layer) where
   by-answer : (a : Answer) → r ≡ a → product (counted a) (drop (s .header) p) ≡ openedOnto (messageOf z k f s) (drop (s .header) o)
   by-answer a e = ap (λ (x : Answer). product (counted x) (drop (s .header) p)) (sym e) ∙ u .outcome
 

@@ -62,8 +62,8 @@ module _ (z : Settings) (l : Layer) (x f : List ℕ) (h w : ℕ) (wide : length 
 
 -- ---- what the calls of sealing left
 
-module _ (z : Settings) (fair : Fair z) (key : Key) (nonce : List ℕ) (l : Layer) (x f : List ℕ) (h w : ℕ) (wide : length x ≡ w) (within : h ≤ length f)
-    (o : List ℕ) (short : length f + w + z .tag ≤ longest) (room : longest ≤ length o) where
+module _ (z : Settings) (fair : Fair z) (key : Key) (nonce : List ℕ) (l : Layer) (x f : List ℕ) (h w : ℕ) (wide : length x ≡ w)
+    (within : h ≤ length f) (o : List ℕ) (short : length f + w + z .tag ≤ longest) (room : longest ≤ length o) where
   headers-laid : (p q : List ℕ) → p ≡ laid o f h (securedHeader l f h) → q ≡ pasted p h x → q ≡ onto (headers l x f h) o
   headers-laid p q ep eq =
       let e : p ≡ onto (securedHeader l f h) o = ep ∙ laid-onto o f h (securedHeader l f h) within (omega arith) in
@@ -72,7 +72,8 @@ module _ (z : Settings) (fair : Fair z) (key : Key) (nonce : List ℕ) (l : Laye
       pasted-behind (securedHeader l f h) o p h n e x q (omega arith) eq
 
   -- what the cipher was asked is what the definition asks
-  asked : (q scratch a : List ℕ) → q ≡ onto (headers l x f h) o → length scratch ≡ longest → a ≡ laid scratch q (h + w) (authenticated z q h (h + w))
+  asked : (q scratch a : List ℕ) → q ≡ onto (headers l x f h) o → length scratch ≡ longest
+      → a ≡ laid scratch q (h + w) (authenticated z q h (h + w))
       → sealing (z .tag) (key .octets) nonce (take (h + w) a) (drop h f) (drop (h + w) q)
       ≡ product (made (length f - h + z .tag)) (onto (ciphered z key nonce l x f h) (drop (h + w) q))
   asked q scratch a eq ez ea =
@@ -82,7 +83,8 @@ module _ (z : Settings) (fair : Fair z) (key : Key) (nonce : List ℕ) (l : Laye
       ap (λ (u : List ℕ). sealing (z .tag) (key .octets) nonce u (drop h f) (drop (h + w) q))
       (scratch-front z scratch a q h (h + w) (omega arith) (omega arith) ea
       ∙ authentic-in z l x f h w wide within q (front (headers l x f h) o q (h + w) n eq))
-      ∙ sealing-made (z .tag) (key .octets) nonce (authentic z l x f h) (fair .tag) (omega (arith, authentic-length z l x f h w wide within))
+      ∙ sealing-made (z .tag) (key .octets) nonce (authentic z l x f h) (fair .tag)
+      (omega (arith, authentic-length z l x f h w wide within))
       (drop h f) (drop (h + w) q) (omega arith) (omega (arith, length-drop (h + w) q))
       ∙ ap (λ (n : ℕ). product (made (n + z .tag)) (onto (ciphered z key nonce l x f h) (drop (h + w) q))) d
 

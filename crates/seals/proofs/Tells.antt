@@ -21,7 +21,8 @@ use Rattle.seals.proofs.Securing.{Sealable, sealed-length, sealing-make
 use Rattle.seals.specs.Sealing.{Fair, sentOctets, sealedFrame, sealing, toldEnclosed, messageOf, plainFrame, toldUnsealed, sound, unsealedOnto, unsealing}
 use Rattle.seals.proofs.Opened.{sound-tells, unsealing-is, plain-length}
 
-module _ (z : Settings) (fair : Fair z) (k : Key) (l : Layer) (f : List ℕ) (s : Secured) (o : List ℕ) (t : sound z f s ≡ true) (room : longest ≤ length o) where
+module _ (z : Settings) (fair : Fair z) (k : Key) (l : Layer) (f : List ℕ) (s : Secured) (o : List ℕ) (t : sound z f s ≡ true)
+    (room : longest ≤ length o) where
   -- a frame of n octets was made, and p is the output that it left
   pub record MadeOf (n : ℕ) (p : List ℕ) : Type 0 where
     pub message : List ℕ
@@ -40,7 +41,12 @@ module _ (z : Settings) (fair : Fair z) (k : Key) (l : Layer) (f : List ℕ) (s 
       go (valid m) q g =
           let a : made n ≡ made (length (plainFrame l f s m)) = ap (λ (x : Product). x .answer) g in
           let b : n ≡ length (plainFrame l f s m) = cc in
-          record { message = m; fits = q; count = b ∙ plain-length z fair k l f s o (sound-tells z f s t) room m; laid = ap (λ (x : Product). x .octets) g }
+          record {
+            message = m;
+            fits = q;
+            count = b ∙ plain-length z fair k l f s o (sound-tells z f s t) room m;
+            laid = ap (λ (x : Product). x .octets) g;
+          }
       go invalid q g =
           let a : made n ≡ refused 9 = ap (λ (x : Product). x .answer) g in
           let never : _≡_ {A = ℕ} 0 1 = cc in
@@ -59,7 +65,8 @@ module _ (z : Settings) (fair : Fair z) (k : Key) (l : Layer) (f : List ℕ) (s 
 
 -- ---- sealing
 
-module _ (z : Settings) (key : Key) (l : Layer) (k n a q : ℕ) (f : List ℕ) (h : ℕ) (o : List ℕ) (low : k ≤ 3) (t : Sealable z k f h) (room : longest ≤ length o) where
+module _ (z : Settings) (key : Key) (l : Layer) (k n a q : ℕ) (f : List ℕ) (h : ℕ) (o : List ℕ) (low : k ≤ 3) (t : Sealable z k f h)
+    (room : longest ≤ length o) where
   -- of the answer that the call gave
   pub sealed-tells : (w : Enclosed) (m : ℕ) (p : List ℕ) → w ≡ Octets m → product (toldEnclosed w) p ≡ sealing z key l k n a q f h o
       → (m ≡ length f + sentOctets k + z .tag) × (p ≡ onto (sealedFrame z key l k n a q f h) o)
@@ -69,7 +76,8 @@ module _ (z : Settings) (key : Key) (l : Layer) (k n a q : ℕ) (f : List ℕ) (
       let v : m ≡ length (sealedFrame z key l k n a q f h) = cc in
       (v ∙ sealed-length z key l k n a q f h (t .within), ap (λ (x : Product). x .octets) g)
 
-  pub never-nothing : {A : Type 0} (w : Enclosed) (p : List ℕ) → w ≡ Nothing → product (toldEnclosed w) p ≡ sealing z key l k n a q f h o → A
+  pub never-nothing : {A : Type 0} (w : Enclosed) (p : List ℕ) → w ≡ Nothing
+      → product (toldEnclosed w) p ≡ sealing z key l k n a q f h o → A
   never-nothing w p ew e =
       let g = ap (λ (x : Enclosed). product (toldEnclosed x) p) (sym ew) ∙ e ∙ sealing-makes z key l k n a q f h o low t room in
       let u : refused 14 ≡ made (length (sealedFrame z key l k n a q f h)) = ap (λ (x : Product). x .answer) g in

@@ -11,19 +11,19 @@ use lib.Dec.{eqb}
 use lib.ListN.{length, getD, take, drop, drop-of-length-le, length-drop}
 use lib.Seq.{drop-drop}
 use borrow.Author.Tests.{eq-eqb, ne-eqb}
+use Rattle.octets.proofs.Tabs.{drop-step}
 use Rattle.octets.specs.Choice.{if_then_else_}
 use Rattle.octets.specs.Lists.{eqList}
 use Rattle.text.specs.Fields.{until, after, behind, fieldAt, fieldFrom, tabs, whichOf}
-use Rattle.text.proofs.Reading.{one}
 
 module _ (l : List ℕ) (i : ℕ) where
   pub until-tab : i < length l → getD l i 0 ≡ 9 → until (drop i l) ≡ []
   unfolding until
-  until-tab h e = rw (one l i h, eq-eqb (getD l i 0) 9 e)
+  until-tab h e = rw (drop-step l i h, eq-eqb (getD l i 0) 9 e)
 
   pub until-more : i < length l → (getD l i 0 ≡ 9 → ⊥) → until (drop i l) ≡ getD l i 0 ∷ until (drop (i + 1) l)
   unfolding until
-  until-more h e = rw (one l i h, ne-eqb (getD l i 0) 9 e)
+  until-more h e = rw (drop-step l i h, ne-eqb (getD l i 0) 9 e)
 
   pub until-end : length l ≤ i → until (drop i l) ≡ []
   unfolding until
@@ -31,11 +31,11 @@ module _ (l : List ℕ) (i : ℕ) where
 
   pub tabs-tab : i < length l → getD l i 0 ≡ 9 → tabs (drop i l) ≡ tabs (drop (i + 1) l) + 1
   unfolding tabs
-  tabs-tab h e = rw (one l i h, eq-eqb (getD l i 0) 9 e) (sym (add-one (tabs (drop (i + 1) l))))
+  tabs-tab h e = rw (drop-step l i h, eq-eqb (getD l i 0) 9 e) (sym (add-one (tabs (drop (i + 1) l))))
 
   pub tabs-more : i < length l → (getD l i 0 ≡ 9 → ⊥) → tabs (drop i l) ≡ tabs (drop (i + 1) l)
   unfolding tabs
-  tabs-more h e = rw (one l i h, ne-eqb (getD l i 0) 9 e)
+  tabs-more h e = rw (drop-step l i h, ne-eqb (getD l i 0) 9 e)
 
   pub tabs-end : length l ≤ i → tabs (drop i l) ≡ 0
   unfolding tabs

@@ -5,26 +5,22 @@ use mathlib.Core.Bool.{Bool, true, false}
 use mathlib.Core.List.{List, [], _∷_}
 use Prim.Native.Nat.{ℕ, zero, suc, _+_, _*_, _≤_, _<_}
 use native.Mathlib.Nat.{le-of-suc-le-suc, not-suc-le-zero}
-use native.Mathlib.Numerals.{add-one}
 use native.Mathlib.Omega.{arith}
 use lib.Dec.{ltb}
 use lib.ListN.{length, getD, drop, drop-of-length-le}
-use lib.Seq.{drop-cons}
 use borrow.Author.Tests.{lt-ltb, le-ltb, ltb-true}
+use Rattle.octets.proofs.Tabs.{drop-step}
 use Rattle.octets.specs.Choice.{both}
 use Rattle.text.specs.Digits.{digitOf, allDigits, spelt}
-
-pub one : (l : List ℕ) (i : ℕ) → i < length l → drop i l ≡ getD l i 0 ∷ drop (i + 1) l
-one l i h = rw (add-one, drop-cons l i 0)
 
 module _ (b : ℕ) (l : List ℕ) (i : ℕ) where
   pub digits-not : i < length l → b ≤ digitOf (getD l i 0) → allDigits b (drop i l) ≡ false
   unfolding allDigits
-  digits-not h k = rw (one l i h, le-ltb (digitOf (getD l i 0)) b k)
+  digits-not h k = rw (drop-step l i h, le-ltb (digitOf (getD l i 0)) b k)
 
   pub digits-more : i < length l → digitOf (getD l i 0) < b → allDigits b (drop i l) ≡ allDigits b (drop (i + 1) l)
   unfolding allDigits
-  digits-more h k = rw (one l i h, lt-ltb (digitOf (getD l i 0)) b k)
+  digits-more h k = rw (drop-step l i h, lt-ltb (digitOf (getD l i 0)) b k)
 
   pub digits-end : length l ≤ i → allDigits b (drop i l) ≡ true
   unfolding allDigits
@@ -32,7 +28,7 @@ module _ (b : ℕ) (l : List ℕ) (i : ℕ) where
 
   pub spelt-more : (n : ℕ) → i < length l → spelt b n (drop i l) ≡ spelt b (n * b + digitOf (getD l i 0)) (drop (i + 1) l)
   unfolding spelt
-  spelt-more n h = rw (one l i h)
+  spelt-more n h = rw (drop-step l i h)
 
   pub spelt-end : (n : ℕ) → length l ≤ i → spelt b n (drop i l) ≡ n
   unfolding spelt

@@ -5,13 +5,13 @@ use mathlib.Core.Bool.{Bool, true, false}
 use mathlib.Core.List.{List, [], _∷_}
 use Prim.Native.Nat.{ℕ, zero, suc, _+_, _-_, _≤_, _<_}
 use native.Mathlib.Nat.{add-zero}
-use native.Mathlib.Numerals.{add-one}
 use native.Mathlib.Omega.{arith}
 use lib.Dec.{leb}
 use lib.ListN.{length, getD, drop, drop-of-length-le, length-drop}
-use lib.Seq.{drop-cons, drop-drop}
+use lib.Seq.{drop-drop}
 use borrow.Author.Tests.{leb-true, leb-false}
 use Rattle.octets.proofs.Choices.{choose}
+use Rattle.octets.proofs.Tabs.{drop-step}
 use Rattle.octets.specs.Choice.{if_then_else_}
 use Rattle.tlvs.specs.declared.Wanted.{Wanted}
 use Rattle.tlvs.specs.declared.Walked.{Walked}
@@ -36,13 +36,11 @@ short i zero s h = absurd (omega arith)
 short i (suc n) [] h = refl
 short i (suc n) (o ∷ s) h = short (i + 1) n s (omega arith)
 
-one : (s : List ℕ) (i : ℕ) → i < length s → drop i s ≡ getD s i 0 ∷ drop (i + 1) s
-one s i h = rw (add-one, drop-cons s i 0)
-
 two : (s : List ℕ) (i : ℕ) → i + 2 ≤ length s → drop i s ≡ getD s i 0 ∷ getD s (i + 1) 0 ∷ drop (i + 2) s
 two s i h =
     let q : i + 1 + 1 ≡ i + 2 = omega arith in
-    one s i (omega arith) ∙ ap (λ (l : List ℕ). getD s i 0 ∷ l) (one s (i + 1) (omega arith) ∙ ap (λ (j : ℕ). getD s (i + 1) 0 ∷ drop j s) q)
+    let next = drop-step s (i + 1) (omega arith) ∙ ap (λ (j : ℕ). getD s (i + 1) 0 ∷ drop j s) q in
+    drop-step s i (omega arith) ∙ ap (λ (l : List ℕ). getD s i 0 ∷ l) next
 
 -- ---- turns of the loop
 
@@ -66,11 +64,11 @@ after-ill (At i n) = refl
 
 -- a list of TLVs is not ill
 first-sound : (w : Wanted) (ts : List Tlv) → firstOf w ts ≡ Ill → ⊥
-first-sound w [] e = let z : _≡_ {A = ℕ} 0 1 = cc in absurd (omega arith)
+first-sound w [] e = let never : _≡_ {A = ℕ} 0 1 = cc in absurd (omega arith)
 first-sound w (t ∷ ts) e = go (wants w (t .tag) (t .size)) (first-sound w ts) e
   where
     go : (b : Bool) → (firstOf w ts ≡ Ill → ⊥) → (if b then At (t .start) (t .size) else firstOf w ts) ≡ Ill → ⊥
-    go true ih e = let z : _≡_ {A = ℕ} 0 1 = cc in absurd (omega arith)
+    go true ih e = let never : _≡_ {A = ℕ} 0 1 = cc in absurd (omega arith)
     go false ih e = ih e
 
 -- what is found from a TLV on, by whether that one is wanted
@@ -108,7 +106,8 @@ module _ (w : Wanted) (s : List ℕ) (x : Walked) (i : ℕ) where
   pub walk-bare : Stands → i < length s → length s - i < 2 → Ill ≡ walked w s
   unfolding tlvsFrom
   walk-bare e h k =
-      let q : drop i s ≡ getD s i 0 ∷ [] = one s i h ∙ ap (λ (l : List ℕ). getD s i 0 ∷ l) (drop-of-length-le s {i = i + 1} (omega arith)) in
+      let end = drop-of-length-le s {i = i + 1} (omega arith) in
+      let q : drop i s ≡ getD s i 0 ∷ [] = drop-step s i h ∙ ap (λ (l : List ℕ). getD s i 0 ∷ l) end in
       sym (e ∙ ap (λ (l : List ℕ). after x (lookedIn w (tlvsFrom i 0 l))) q ∙ after-ill x)
 
   turned : (n : ℕ) → Stands → i + 2 ≤ length s → n ≡ valueSize (getD s (i + 1) 0)
@@ -163,9 +162,11 @@ Inside m Ill = 0 ≤ m
 Inside m Absent = 0 ≤ m
 Inside m (At i n) = i + n ≤ m
 
-led-inside : (m : ℕ) (w : Wanted) (t : Tlv) (ts : Tlvs) → t .start + t .size ≤ m → Inside m (lookedIn w ts) → Inside m (lookedIn w (led t ts))
+led-inside : (m : ℕ) (w : Wanted) (t : Tlv) (ts : Tlvs) → t .start + t .size ≤ m → Inside m (lookedIn w ts)
+    → Inside m (lookedIn w (led t ts))
 led-inside m w t ill h k = omega arith
-led-inside m w t (filling ts) h k = choose (Inside m) (wants w (t .tag) (t .size)) (At (t .start) (t .size)) (firstOf w ts) (λ _. h) (λ _. k)
+led-inside m w t (filling ts) h k =
+    choose (Inside m) (wants w (t .tag) (t .size)) (At (t .start) (t .size)) (firstOf w ts) (λ _. h) (λ _. k)
 
 from-inside : (w : Wanted) (i n : ℕ) (s : List ℕ) → Inside (i + length s) (lookedIn w (tlvsFrom i n s))
 unfolding tlvsFrom
@@ -174,7 +175,8 @@ from-inside w i zero (t ∷ []) = omega arith
 from-inside w i zero (t ∷ n ∷ s) = go (leb (valueSize n) (length s)) refl (from-inside w (i + 2) (valueSize n) s)
   where
     go : (b : Bool) → leb (valueSize n) (length s) ≡ b → Inside (i + 2 + length s) (lookedIn w (tlvsFrom (i + 2) (valueSize n) s))
-        → Inside (i + length (t ∷ n ∷ s)) (lookedIn w (led (record { tag = t; start = i + 2; size = valueSize n }) (tlvsFrom (i + 2) (valueSize n) s)))
+        → let rest = tlvsFrom (i + 2) (valueSize n) s in
+        Inside (i + length (t ∷ n ∷ s)) (lookedIn w (led (record { tag = t; start = i + 2; size = valueSize n }) rest))
     go true e ih =
         let q : i + 2 + length s ≡ i + length (t ∷ n ∷ s) = omega arith in
         led-inside (i + length (t ∷ n ∷ s)) w _ (tlvsFrom (i + 2) (valueSize n) s) (omega (arith, leb-true (valueSize n) (length s) e))

@@ -27,15 +27,19 @@ returns : tie.Need-returns
 returns c =
     let after-unseal : tie.After-unseal = search in
     let start : tie.Start = search in
-    ap (λ r. isMade (toldUnsealed r)) (sym (c .enum-told .given .1)) ∙ looked ours (theKey (start .args .key)) Aps (start .args .frame .now) (start .args .secured)
-    (replicate longest 0) (omega arith) (after-unseal .unseal .result) _ (after-unseal .unseal .ensures)
+    let y = start .args in
+    ap (λ r. isMade (toldUnsealed r)) (sym (c .enum-told .given .1))
+    ∙ looked ours (theKey (y .key)) Aps (y .frame .now) (y .secured) (replicate longest 0) (omega arith)
+    (after-unseal .unseal .result) _ (after-unseal .unseal .ensures)
 
 returns-2 : tie.Need-returns-2
 returns-2 c =
     let after-unseal : tie.After-unseal = search in
     let start : tie.Start = search in
-    ap (λ r. isMade (toldUnsealed r)) (sym (c .enum-told2 .given .1)) ∙ looked ours (theKey (start .args .key)) Aps (start .args .frame .now) (start .args .secured)
-    (replicate longest 0) (omega arith) (after-unseal .unseal .result) _ (after-unseal .unseal .ensures)
+    let y = start .args in
+    ap (λ r. isMade (toldUnsealed r)) (sym (c .enum-told2 .given .1))
+    ∙ looked ours (theKey (y .key)) Aps (y .frame .now) (y .secured) (replicate longest 0) (omega arith)
+    (after-unseal .unseal .result) _ (after-unseal .unseal .ensures)
 
 pub look-spec : {M : Type 1} → statement M
 look-spec =

@@ -76,8 +76,9 @@ secures-there c =
     let after-lay-auxiliary : tie.After-lay-auxiliary = search in
     let after-lay-secured-header : tie.After-lay-secured-header = search in
     let after-sent-octets : tie.After-sent-octets = search in
-    sealed-by ours (theKey (y .key)) (y .l) (y .identifier) (y .counter) (y .sender) (y .sequence) (y .f .now) (y .h) (y .out .now) (x .pre .0) (fits x)
-    (x .pre .1 .1) ours-fair (replicate longest 0) (after-sent-octets .sent-octets .ensures .0) (after-lay-secured-header .lay-secured-header .ensures)
+    sealed-by ours (theKey (y .key)) (y .l) (y .identifier) (y .counter) (y .sender) (y .sequence) (y .f .now) (y .h) (y .out .now)
+    (x .pre .0) (fits x) (x .pre .1 .1) ours-fair (replicate longest 0)
+    (after-sent-octets .sent-octets .ensures .0) (after-lay-secured-header .lay-secured-header .ensures)
     (after-lay-auxiliary .lay-auxiliary .ensures) refl (after-lay-authenticated .lay-authenticated .ensures)
     (after-wire-control .wire-control .ensures) (after-nonce .nonce .ensures) (c .seal-body .ensures .0) (c .seal-body .ensures .1)
 

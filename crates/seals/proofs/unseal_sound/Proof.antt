@@ -63,7 +63,8 @@ unseals-there c =
       room = x .pre .1;
       outcome =
           c .unseal-body .ensures .0
-          ∙ asked ours ours-fair (theKey (y .key)) (y .l) (y .f .now) (y .s) (y .out .now) (fits x) (x .pre .1) (replicate longest 0) _ _ refl
+          ∙ asked ours ours-fair (theKey (y .key)) (y .l) (y .f .now) (y .s) (y .out .now) (fits x) (x .pre .1)
+          (replicate longest 0) _ _ refl
           (after-lay-authenticated .lay-authenticated .ensures) (after-nonce .nonce .ensures);
     }
 
