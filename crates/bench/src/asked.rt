@@ -4,6 +4,7 @@ use crate::command_lines::guard_of;
 use crate::forms::COMMANDS;
 use crate::forms::ON_BOARD;
 use crate::forms::REQUESTS;
+use crate::frame::Frame;
 use answers::Guard;
 use commands::Command;
 use text::Octets;
@@ -39,12 +40,6 @@ pub enum Alone {
     Tlv(Guard, u8),
     Hash,
     KeyedHash,
-}
-
-// The first n octets.
-pub struct Frame {
-    pub n: usize,
-    pub octets: [u8; 256],
 }
 
 // A request, its key or hash, and its other octets; none where it has none.
@@ -135,12 +130,4 @@ fn write_by(w: usize, line: &[u8], form: &[u8]) -> Request {
     }
     let command = command_of(w, lines::numbers_of(line, form));
     Request::OnBoard(OnBoard::Write(ack == 0, command))
-}
-
-// The key of a line whose form has one.
-pub(crate) fn sixteen(key: Frame) -> [u8; 16] {
-    let o = key.octets;
-    let mut k = [0u8; 16];
-    text::put(&mut k, 0, text::front(&o, 16));
-    k
 }

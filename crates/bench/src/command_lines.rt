@@ -1,12 +1,12 @@
 // APS commands, read and written.
 use crate::answer::done;
-use crate::asked::Frame;
 use crate::desk::Desk;
 use crate::desk::Moved;
 use crate::desk::Reply;
 use crate::desk::reply_moved;
 use crate::desk::room_of;
 use crate::forms::COMMANDS;
+use crate::frame::Frame;
 use answers::Guard;
 use answers::Written;
 use board::Board;

@@ -1,9 +1,9 @@
 // The hash and the keyed hash, which need no board.
 use crate::answer::done;
-use crate::asked::Frame;
-use crate::asked::sixteen;
 use crate::desk::Desk;
 use crate::desk::Reply;
+use crate::frame::Frame;
+use crate::frame::sixteen;
 use answers::Refusal;
 use cipher::Hashed;
 use lines::Answer;

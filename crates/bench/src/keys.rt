@@ -1,7 +1,5 @@
 // The requests that change keys.
 use crate::answer::told;
-use crate::asked::Frame;
-use crate::asked::sixteen;
 use crate::desk::Desk;
 use crate::desk::Held;
 use crate::desk::Lent;
@@ -13,6 +11,8 @@ use crate::desk::floors_of;
 use crate::desk::reply_held;
 use crate::desk::reply_moved;
 use crate::desk::with_lists;
+use crate::frame::Frame;
+use crate::frame::sixteen;
 use board::Board;
 
 pub(crate) fn switch(number: u8, desk: Desk) -> Reply {

@@ -8,6 +8,7 @@ mod asked;
 mod command_lines;
 mod desk;
 mod forms;
+mod frame;
 mod hashes;
 mod input;
 mod keys;

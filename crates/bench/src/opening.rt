@@ -1,6 +1,5 @@
 // Frames opened, at both layers.
 use crate::answer::done;
-use crate::asked::Frame;
 use crate::desk::Desk;
 use crate::desk::Held;
 use crate::desk::Lent;
@@ -12,6 +11,7 @@ use crate::desk::floors_of;
 use crate::desk::reply_held;
 use crate::desk::reply_moved;
 use crate::desk::room_of;
+use crate::frame::Frame;
 use answers::Guard;
 use answers::Opened;
 use answers::Refusal;

@@ -1,7 +1,6 @@
 // A line's answer, by the request that it is.
 use crate::asked::Alone;
 use crate::asked::Asked;
-use crate::asked::Frame;
 use crate::asked::OnBoard;
 use crate::asked::Request;
 use crate::asked::asked_of;
@@ -9,6 +8,7 @@ use crate::command_lines;
 use crate::desk::Desk;
 use crate::desk::Reply;
 use crate::desk::reply_bad;
+use crate::frame::Frame;
 use crate::hashes;
 use crate::keys;
 use crate::making;

@@ -1,11 +1,11 @@
 // Frames sealed, at both layers.
 use crate::answer::done;
-use crate::asked::Frame;
 use crate::desk::Desk;
 use crate::desk::Moved;
 use crate::desk::Reply;
 use crate::desk::reply_moved;
 use crate::desk::room_of;
+use crate::frame::Frame;
 use answers::Sealed;
 use board::Board;
 use board::Sent;

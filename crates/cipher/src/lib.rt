@@ -41,76 +41,83 @@ pub fn aes128_block(key: [u8; 16], block: [u8; 16]) -> [u8; 16]
     aes::encipher(&sbox, &keys, block)
 }
 
-// CCM* of Annex A: p enciphered and its tag of m octets, at the start of out. Refused are an m that
-// is no tag's length (14), more than 128 authenticated or payload octets (2) and an output without
-// room (1); out is then as it stood.
-pub fn seal(m: usize, key: [u8; 16], nonce: [u8; 13], a: &[u8], p: &[u8], out: &mut [u8]) -> Answer
-    ensures { λ r. ⌜ product (counted r) (now (out .exit)) ≡ sealing m key nonce (now (a .entry)) (now (p .entry)) (now (out .entry)) ⌝ }
-{
-    if !ccm::tag_length(m) {
-        return Answer::Refused(Fault::Argument);
-    }
-    if 128 < a.len() {
-        return Answer::Refused(Fault::Long);
-    }
-    if 128 < p.len() {
-        return Answer::Refused(Fault::Long);
-    }
-    if out.len() < p.len() + m {
-        return Answer::Refused(Fault::Room);
-    }
-    let sbox = aes::table();
-    let keys = aes::expand(&sbox, key);
-    ccm::seal_with(&sbox, &keys, m, nonce, a, p, out);
-    Answer::Made(p.len() + m)
-}
-
-// The reverse: c is taken for ciphertext and tag, and the plain octets are laid at the start of
-// out where the tag fits (else 9). Refused are, before that, an m that is no tag's length (14),
-// more than 128 authenticated or payload octets (2), a c shorter than its tag (3) and an output
-// without room (1). A refusal leaves out as it stood.
-pub fn unseal(
-    m: usize,
+// CCM* of Annex A: the payload enciphered, and its tag of so many octets, at the start of out. Refused
+// are a tag of another length than CCM* has (14), more than 128 authenticated or payload octets (2)
+// and an output without room (1); out is then as it stood.
+pub fn seal(
+    tag: usize,
     key: [u8; 16],
     nonce: [u8; 13],
-    a: &[u8],
-    c: &[u8],
+    authenticated: &[u8],
+    payload: &[u8],
     out: &mut [u8],
 ) -> Answer
-    ensures { λ r. ⌜ product (counted r) (now (out .exit)) ≡ opening m key nonce (now (a .entry)) (now (c .entry)) (now (out .entry)) ⌝ }
+    ensures { λ r. ⌜ product (counted r) (now (out .exit)) ≡ sealing tag key nonce (now (authenticated .entry)) (now (payload .entry)) (now (out .entry)) ⌝ }
 {
-    if !ccm::tag_length(m) {
+    if !ccm::tag_length(tag) {
         return Answer::Refused(Fault::Argument);
     }
-    if 128 < a.len() {
+    if 128 < authenticated.len() {
         return Answer::Refused(Fault::Long);
     }
-    if 128 + m < c.len() {
+    if 128 < payload.len() {
         return Answer::Refused(Fault::Long);
     }
-    if c.len() < m {
-        return Answer::Refused(Fault::Short);
-    }
-    if out.len() < c.len() - m {
+    if out.len() < payload.len() + tag {
         return Answer::Refused(Fault::Room);
     }
     let sbox = aes::table();
     let keys = aes::expand(&sbox, key);
-    ccm::open_with(&sbox, &keys, m, nonce, a, c, out)
+    ccm::seal_with(&sbox, &keys, tag, nonce, authenticated, payload, out);
+    Answer::Made(payload.len() + tag)
+}
+
+// The reverse: what was sealed is taken for ciphertext and tag, and the plain octets are laid at the
+// start of out where the tag fits (else 9). Refused are, before that, a tag of another length than
+// CCM* has (14), more than 128 authenticated or payload octets (2), fewer octets than the tag has (3)
+// and an output without room (1). A refusal leaves out as it stood.
+pub fn unseal(
+    tag: usize,
+    key: [u8; 16],
+    nonce: [u8; 13],
+    authenticated: &[u8],
+    sealed: &[u8],
+    out: &mut [u8],
+) -> Answer
+    ensures { λ r. ⌜ product (counted r) (now (out .exit)) ≡ opening tag key nonce (now (authenticated .entry)) (now (sealed .entry)) (now (out .entry)) ⌝ }
+{
+    if !ccm::tag_length(tag) {
+        return Answer::Refused(Fault::Argument);
+    }
+    if 128 < authenticated.len() {
+        return Answer::Refused(Fault::Long);
+    }
+    if 128 + tag < sealed.len() {
+        return Answer::Refused(Fault::Long);
+    }
+    if sealed.len() < tag {
+        return Answer::Refused(Fault::Short);
+    }
+    if out.len() < sealed.len() - tag {
+        return Answer::Refused(Fault::Room);
+    }
+    let sbox = aes::table();
+    let keys = aes::expand(&sbox, key);
+    ccm::open_with(&sbox, &keys, tag, nonce, authenticated, sealed, out)
 }
 
 // AES-MMO of up to 256 octets; more of them is 2.
-pub fn hash(d: &[u8]) -> Hashed
-    ensures { λ r. ⌜ product (counted (r .answer)) (r .octets) ≡ hashing (now (d .entry)) ⌝ }
+pub fn hash(input: &[u8]) -> Hashed
+    ensures { λ r. ⌜ product (counted (r .answer)) (r .octets) ≡ hashing (now (input .entry)) ⌝ }
 {
-    if 256 < d.len() {
+    if 256 < input.len() {
         return Hashed {
             answer: Answer::Refused(Fault::Long),
             octets: [0u8; 16],
         };
     }
     let sbox = aes::table();
-    let octets = mmo::hash_from(&sbox, [0u8; 16], 0, d);
+    let octets = mmo::hash_from(&sbox, [0u8; 16], 0, input);
     Hashed {
         answer: Answer::Made(16),
         octets,
@@ -118,17 +125,17 @@ pub fn hash(d: &[u8]) -> Hashed
 }
 
 // The keyed hash, HMAC over AES-MMO, of up to 240 octets; more of them is 2.
-pub fn keyed_hash(key: [u8; 16], d: &[u8]) -> Hashed
-    ensures { λ r. ⌜ product (counted (r .answer)) (r .octets) ≡ keyedHashing key (now (d .entry)) ⌝ }
+pub fn keyed_hash(key: [u8; 16], input: &[u8]) -> Hashed
+    ensures { λ r. ⌜ product (counted (r .answer)) (r .octets) ≡ keyedHashing key (now (input .entry)) ⌝ }
 {
-    if 240 < d.len() {
+    if 240 < input.len() {
         return Hashed {
             answer: Answer::Refused(Fault::Long),
             octets: [0u8; 16],
         };
     }
     let sbox = aes::table();
-    let octets = mmo::keyed_hash_of(&sbox, key, d);
+    let octets = mmo::keyed_hash_of(&sbox, key, input);
     Hashed {
         answer: Answer::Made(16),
         octets,

@@ -4,7 +4,7 @@ ghost use Prim.Native.Nat.{_+_, _*_, _^_, _<_, _≤_};
 ghost use lib.ListN.{length};
 ghost use Rattle.octets.specs.Lists.{at, tab};
 ghost use Rattle.text.specs.Fields.{fieldAt};
-ghost use Rattle.text.specs.Hex.{gave, unhexed};
+ghost use Rattle.text.specs.Hex.{readInto, unhexed};
 ghost use Rattle.lines.specs.Kinds.{kindOf, within, valueOf, good, number};
 ghost use Rattle.lines.specs.Forms.{valueAt, hasForm, isRow, rowOf, numberAt, among, placeOf};
 ghost use Rattle.lines.specs.declared.forms.Kind.the-variants as kinds;
@@ -197,7 +197,7 @@ fn number_in(v: Value) -> u64
 // Reads the octets of the first field whose letter is one of those into the front of out, and
 // answers how many. Where the line has no such field they are none.
 pub fn octets_by(line: &[u8], form: &[u8], letters: &[u8], out: &mut [u8]) -> Octets
-    ensures { λ r. ⌜ gave r (now (out .exit)) ≡ unhexed (fieldAt (now (line .entry)) (placeOf (now (form .entry)) (now (letters .entry)))) (now (out .entry)) ⌝ }
+    ensures { λ r. ⌜ readInto r (now (out .exit)) ≡ unhexed (fieldAt (now (line .entry)) (placeOf (now (form .entry)) (now (letters .entry)))) (now (out .entry)) ⌝ }
 {
     text::octets_of(text::field(line, place_of(form, letters)), out)
 }

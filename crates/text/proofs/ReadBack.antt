@@ -14,7 +14,7 @@ use Rattle.octets.proofs.Choices.{choose}
 use Rattle.octets.specs.Choice.{both}
 use Rattle.octets.specs.Lists.{at, onto, Octets}
 use Rattle.text.specs.Digits.{digitOf, allDigits, spelt}
-use Rattle.text.specs.Hex.{hexOf, octetsOf, isHex, unhexed, gave, address, addressOf}
+use Rattle.text.specs.Hex.{hexOf, octetsOf, isHex, unhexed, readInto, address, addressOf}
 use Rattle.text.specs.Decimal.{decimal, decimalIn, zeroLed, isDecimal, numberOf}
 use Rattle.text.specs.declared.hex.Octets.the-variants.{Are}
 use Rattle.text.proofs.Hexed.{length-hex}
@@ -60,7 +60,7 @@ hex-digits (x ∷ l) h =
     let v : x % 16 < 16 = omega arith in
     rw (digit-glyph (x / 16) u, digit-glyph (x % 16) v, lt-ltb (x / 16) 16 u, lt-ltb (x % 16) 16 v) (hex-digits l (tail-octets h))
 
-pub hex-back : (l o : List ℕ) → Octets l → length l ≤ length o → unhexed (hexOf l) o ≡ gave (Are (length l)) (onto l o)
+pub hex-back : (l o : List ℕ) → Octets l → length l ≤ length o → unhexed (hexOf l) o ≡ readInto (Are (length l)) (onto l o)
 unfolding unhexed isHex
 hex-back l o h r =
     let e : length (hexOf l) / 2 ≡ length l = omega (arith, length-hex l) in

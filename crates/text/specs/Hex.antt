@@ -31,8 +31,8 @@ pub record Unhexed : Type 0 where
   pub answer : Octets
   pub out : List ℕ
 
-abbrev pub gave : Octets → List ℕ → Unhexed
-gave r o = record { answer = r; out = o }
+abbrev pub readInto : Octets → List ℕ → Unhexed
+readInto r o = record { answer = r; out = o }
 
 -- l is hex of whole octets, n of them at most
 unfoldable pub isHex : List ℕ → ℕ → Bool
@@ -42,8 +42,8 @@ isHex l n = both (eqb (length l % 2) 0) (both (leb (length l / 2) n) (allDigits 
 unfoldable pub unhexed : List ℕ → List ℕ → Unhexed
 unhexed l o =
     if isHex l (length o)
-    then gave (octets.Are (length l / 2)) (onto (octetsOf l) o)
-    else gave octets.Bad o
+    then readInto (octets.Are (length l / 2)) (onto (octetsOf l) o)
+    else readInto octets.Bad o
 
 -- an address in hex
 unfoldable pub address : ℕ → List ℕ

@@ -7,7 +7,7 @@ ghost use Rattle.octets.specs.Lists.{pasted, onto};
 ghost use Rattle.io.specs.Digits.{glyph as Digits·glyph};
 ghost use Rattle.text.specs.Cursor.{ahead};
 ghost use Rattle.text.specs.Digits.{allDigits, spelt};
-ghost use Rattle.text.specs.Hex.{hexOf, octetsOf, unhexed, gave, address, addressOf};
+ghost use Rattle.text.specs.Hex.{hexOf, octetsOf, unhexed, readInto, address, addressOf};
 use crate::cursor::put;
 use crate::digits::all_digits;
 use crate::digits::digit;
@@ -26,7 +26,7 @@ pub enum Address {
 // Reads hex into the front of out. All of it is looked at before out is touched, so that a refusal
 // leaves out as it stood.
 pub fn octets_of(s: &[u8], out: &mut [u8]) -> Octets
-    ensures { λ r. ⌜ gave r (now (out .exit)) ≡ unhexed (now (s .entry)) (now (out .entry)) ⌝ }
+    ensures { λ r. ⌜ readInto r (now (out .exit)) ≡ unhexed (now (s .entry)) (now (out .entry)) ⌝ }
 {
     if s.len() % 2 != 0 {
         return Octets::Bad;

@@ -22,7 +22,7 @@ returns-2 : tie.Need-returns-2
 unfolding hashing hashOf
 returns-2 c =
     let start : tie.Start = search in
-    simp (le-leb _ _ (c .before .before .before .if1 .left), c .hash-from .ensures, pad-none (start .args .d .now))
+    simp (le-leb _ _ (c .before .before .before .if1 .left), c .hash-from .ensures, pad-none (start .args .input .now))
 
 pub hash-spec : {M : Type 1} → statement M
 hash-spec = tie.close (tie.spec returns table-requires hash-from-requires returns-2)
