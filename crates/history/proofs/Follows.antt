@@ -20,7 +20,7 @@ use Rattle.history.specs.Events.{Holder, slot, link, nowhere, Installati
 use Rattle.history.specs.Story.{eventsOf, story}
 use Rattle.history.specs.Statement.{readings, lower, rising, First, longestAt, keyAt, aboveAll, room, passesUnder, passesRead, passes, Rightly, Second}
 use Rattle.history.specs.Running.{Held, byNetwork, byFrame, step, run, replies}
-use Rattle.history.proofs.Searches.{clash}
+use Rattle.history.proofs.Searches.{clash, not-twice}
 use Rattle.history.proofs.Second.{key-nowhere, plain-not}
 use Rattle.network.proofs.Ways as networkWays
 use Rattle.aps.proofs.Ways as apsWays
@@ -293,10 +293,6 @@ module _ (z : Settings) (board : Replies) (meets : Second z board) where
       ∙ ap (λ (h : List Event). passes z h k e a p) stories ∙ sym (opened-is (ds ++ cs) k e a p octets ne))
       ∙ not-twice (refuses (board (ds ++ cs) (opening k e a p)))
     where
-      not-twice : (t : Bool) → not (not t) ≡ t
-      not-twice true = refl
-      not-twice false = refl
-
       told-nothing : story z (exchanges board (opening l f g o ∷ cs)) ≡ story z (exchanges board cs)
       told-nothing = rw turned refl
 

@@ -2,7 +2,7 @@
 -- Assumes nothing.
 use mathlib.Core.Path.{_≡_, refl, ap, ap₂, _∙_}
 use mathlib.Core.Logic.{_⊎_, inl, inr, ⊎-elim}
-use mathlib.Core.Bool.{Bool, true, false}
+use mathlib.Core.Bool.{Bool, true, false, not}
 use Prim.Native.Nat.{ℕ, zero, suc, _+_, _<_, _≤_}
 use native.Mathlib.Omega.{arith}
 use lib.Dec.{eqb}
@@ -15,6 +15,10 @@ use Rattle.board.proofs.Found.{first-found, first-none}
 
 pub clash : {A : Type 0} {t : Bool} → t ≡ true → t ≡ false → A
 clash e f = let never : _≡_ {A = ℕ} 0 1 = cc in absurd (omega arith)
+
+pub not-twice : (t : Bool) → not (not t) ≡ t
+not-twice true = refl
+not-twice false = refl
 
 pub same-or : (a b : ℕ) → (a ≡ b) ⊎ (a ≡ b → ⊥)
 same-or a b = go (eqb a b) refl

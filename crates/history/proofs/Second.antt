@@ -21,6 +21,7 @@ use Rattle.history.specs.Story.{story}
 use Rattle.history.specs.Statement.{aboveAll, room, passesUnder, passesRead, passes, tellsKey, Rightly, Second}
 use Rattle.history.specs.Running.{Held, byNetwork, byFrame, step, run, replies}
 use Rattle.history.specs.Calls as calls
+use Rattle.history.proofs.Searches.{not-twice}
 use Rattle.history.proofs.Counters.{bound, counters, above-bound, names, from-names, senders-names, member}
 use Rattle.history.proofs.Rows.{there}
 use Rattle.history.proofs.Senders.{row-there, room-told}
@@ -179,10 +180,6 @@ module _ (z : Settings) (x : Held) (h : List Event) (w : Stands z x h) (f : List
   tell-read (secured s) e ne =
       tell-keyed s e (slotOf (b .slots) (s .sequence)) refl
       ∙ ap (λ (p : Place). passesUnder z h Network f s (holderAt p) (keyIn h (holderAt p))) (sym (slot-for z x h w (s .sequence)))
-
-  not-twice : (t : Bool) → not (not t) ≡ t
-  not-twice true = refl
-  not-twice false = refl
 
   pub tell-network : ((n : ℕ) → reading z Network f 0 ≡ plain n → ⊥)
       → not (refuses (step z (opening Network f g o) x .reply)) ≡ passes z h Network f g o

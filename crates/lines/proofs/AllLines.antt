@@ -12,6 +12,7 @@ use lib.Dec.{eqb, ltb}
 use lib.ListN.{length, take, length-append}
 use lib.Seq.{take-all, take-nil, append-snoc, take-append-le, length-take-le}
 use borrow.Author.Tests.{lt-ltb, le-ltb, ltb-true, ltb-false, eqb-true}
+use Rattle.octets.proofs.Choices.{both-parts}
 use Rattle.octets.specs.Choice.{if_then_else_, both}
 use Rattle.lines.specs.Lines.{Lines, lines, linesFrom, linesOf, glued, unfed, allUnfed}
 use Rattle.lines.specs.Reading.{Held, holds, kept, unread, fed, Reached, reached, readOn}
@@ -174,10 +175,6 @@ pub lines-back : (l : List ℕ) → glued (linesOf l .ended) (linesOf l .rest) �
 unfolding linesOf
 lines-back l = lines-from [] l
 
-both-are : (s t : Bool) → both s t ≡ true → (s ≡ true) × (t ≡ true)
-both-are true t h = (refl, h)
-both-are false t h = absurd (false≢true h)
-
 -- a line that stands behind p, and what stands behind its line feed
 line-there : (p x l : List ℕ) → unfed x ≡ true
     → linesFrom p (x ++ (10 ∷ l)) ≡ lines ((p ++ x) ∷ linesFrom [] l .ended) (linesFrom [] l .rest)
@@ -217,6 +214,6 @@ pub lines-there : (e : List (List ℕ)) (r : List ℕ) → allUnfed e ≡ true �
 unfolding linesOf glued allUnfed
 lines-there [] r h k = rest-there [] r k
 lines-there (x ∷ e) r h k =
-    let (one, all) : (unfed x ≡ true) × (allUnfed e ≡ true) = both-are (unfed x) (allUnfed e) h in
+    let (one, all) : (unfed x ≡ true) × (allUnfed e ≡ true) = both-parts (unfed x) (allUnfed e) h in
     line-there [] x (glued e r) one
     ∙ ap (λ (m : Lines). lines (x ∷ m .ended) (m .rest)) (lines-there e r all k)

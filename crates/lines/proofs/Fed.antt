@@ -7,9 +7,10 @@ use Prim.Native.Nat.{ℕ, _+_, _-_, _≤_, _<_}
 use native.Mathlib.Numerals.{add-one}
 use native.Mathlib.Omega.{arith}
 use lib.ListN.{length, getD, take, drop, set, length-take, take-append-drop, drop-of-length-le}
-use lib.Seq.{take-all, take-suc-set, drop-cons, drop-drop, length-take-le}
+use lib.Seq.{take-all, take-suc-set, drop-drop, length-take-le}
 use lib.Dec.{leb}
 use borrow.Author.Tests.{eq-eqb, ne-eqb, lt-ltb, le-ltb, leb-true, leb-false}
+use Rattle.octets.proofs.Tabs.{drop-step}
 use Rattle.octets.specs.Lists.{onto}
 use Rattle.lines.specs.Reading.{Held, holds, fed, reached, readOn}
 
@@ -28,17 +29,14 @@ module _ (b : List ℕ) (i : ℕ) (t : Bool) (c : ℕ) where
       rw (take-all i b h, le-ltb (length b) (length b) (omega arith))
 
 module _ (n : ℕ) (h : Held) (l : List ℕ) (i : ℕ) where
-  one : i < length l → drop i l ≡ getD l i 0 ∷ drop (i + 1) l
-  one k = rw (add-one i) (drop-cons l i 0 k)
-
   pub read-feed : i < length l → getD l i 0 ≡ 10 → readOn n h (drop i l) ≡ reached h true (drop (i + 1) l)
   unfolding readOn
-  read-feed k e = rw (one k, eq-eqb (getD l i 0) 10 e)
+  read-feed k e = rw (drop-step l i k, eq-eqb (getD l i 0) 10 e)
 
   pub read-more : i < length l → (getD l i 0 ≡ 10 → ⊥)
       → readOn n h (drop i l) ≡ readOn n (fed n h (getD l i 0)) (drop (i + 1) l)
   unfolding readOn
-  read-more k e = rw (one k, ne-eqb (getD l i 0) 10 e)
+  read-more k e = rw (drop-step l i k, ne-eqb (getD l i 0) 10 e)
 
   pub read-end : length l ≤ i → readOn n h (drop i l) ≡ reached h false (drop i l)
   unfolding readOn

@@ -12,7 +12,7 @@ use lib.Dec.{eqb}
 use lib.ListN.{length, getD, drop, drop-of-length-le}
 use Rattle.octets.specs.Choice.{if_then_else_, both}
 use Rattle.text.specs.Fields.{tabs, fields}
-use Rattle.text.proofs.Reading.{one}
+use Rattle.octets.proofs.Tabs.{drop-step}
 use Rattle.lines.specs.Kinds.{good}
 use Rattle.lines.specs.Forms.{valueAt, firstGood, isRow, rowFrom, among, placeOf}
 
@@ -71,11 +71,11 @@ row-none t l k r n h = let z : n - r ≡ 0 = omega arith in rw z
 module _ (c : ℕ) (l : List ℕ) (i : ℕ) where
   pub among-is : i < length l → eqb (getD l i 0) c ≡ true → among c (drop i l) ≡ true
   unfolding among
-  among-is h e = rw (one l i h, e)
+  among-is h e = rw (drop-step l i h, e)
 
   pub among-more : i < length l → eqb (getD l i 0) c ≡ false → among c (drop i l) ≡ among c (drop (i + 1) l)
   unfolding among
-  among-more h e = rw (one l i h, e)
+  among-more h e = rw (drop-step l i h, e)
 
   pub among-end : length l ≤ i → among c (drop i l) ≡ false
   unfolding among
@@ -84,11 +84,11 @@ module _ (c : ℕ) (l : List ℕ) (i : ℕ) where
 module _ (f s : List ℕ) (i : ℕ) where
   pub place-is : i < length f → among (getD f i 0) s ≡ true → placeOf (drop i f) s ≡ 0
   unfolding placeOf
-  place-is h e = rw (one f i h, e)
+  place-is h e = rw (drop-step f i h, e)
 
   pub place-more : i < length f → among (getD f i 0) s ≡ false → placeOf (drop i f) s ≡ suc (placeOf (drop (i + 1) f) s)
   unfolding placeOf
-  place-more h e = rw (one f i h, e)
+  place-more h e = rw (drop-step f i h, e)
 
   pub place-end : length f ≤ i → placeOf (drop i f) s ≡ 0
   unfolding placeOf
