@@ -16,7 +16,8 @@ use Rattle.octets.proofs.Choices.{both-parts}
 use Rattle.octets.specs.Choice.{if_then_else_, both}
 use Rattle.lines.specs.Lines.{Lines, lines, linesFrom, linesOf, glued, unfed, allUnfed}
 use Rattle.lines.specs.Reading.{Held, holds, kept, unread, fed, Reached, reached, readOn}
-use Rattle.lines.specs.Passing.{Standing, stands, atStart, numberAfter, begun, empty, spent, turned, filled, due, Numbered, numbered, handing, read, later, turns, given, all, countedFrom}
+use Rattle.lines.specs.Passing.{stands, atStart, numberAfter, begun, empty, spent, turned, filled, due}
+use Rattle.lines.specs.Passing.{Numbered, numbered, handing, read, later, turns, given, all, countedFrom}
 
 -- octet by octet: the lines of h and then l, the last one too
 unfoldable reads : ℕ → Held → List ℕ → List Held

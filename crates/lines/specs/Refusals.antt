@@ -6,7 +6,8 @@ use mathlib.Core.List.{List, [], _∷_, _++_}
 use Prim.Native.Nat.{ℕ}
 use Rattle.answers.specs.Numbers.{numberOf}
 use Rattle.answers.specs.declared.Refusal.{Refusal}
-use Rattle.answers.specs.declared.Refusal.the-variants.{Room, Long, Short, Form, Security, NoKey, Top, Stale, Forged, Full, Command, Protection, Absent, Argument}
+use Rattle.answers.specs.declared.Refusal.the-variants.{Room, Long, Short, Form, Security, NoKey, Top, Stale, Forged, Full}
+use Rattle.answers.specs.declared.Refusal.the-variants.{Command, Protection, Absent, Argument}
 use Rattle.text.specs.Decimal.{decimal}
 
 -- the word `refused`

@@ -1,5 +1,5 @@
 -- A line that has not ended is left; behind one that has, an unread line with the next number stands at the same place.
-use mathlib.Core.Path.{_≡_, refl, sym, ap, ap₂, _∙_}
+use mathlib.Core.Path.{_≡_, ap₂}
 use mathlib.Core.Bool.{true, false}
 use Prim.Native.Nat.{ℕ}
 use lib.ListN.{take, drop}

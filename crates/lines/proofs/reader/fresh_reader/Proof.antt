@@ -1,5 +1,5 @@
 -- The line is unread, and a chunk of no octets has nothing left.
-use mathlib.Core.Path.{_≡_, ap}
+use mathlib.Core.Path.{ap}
 use mathlib.Core.Bool.{true, false}
 use mathlib.Core.List.{[]}
 use Rattle.lines.specs.Reading.{Held, reached}

@@ -2,7 +2,6 @@
 use mathlib.Core.Path.{_≡_}
 use mathlib.Core.Bool.{true, false}
 use Rattle.lines.specs.Passing.{due}
-use borrow.Author.Needs.{needs}
 use Rattle.lines.proofs.reader.is_due.Statement.{statement}
 use Rattle.lines.proofs.reader.is_due.Tie as tie
 

@@ -4,7 +4,7 @@ use mathlib.Core.Bool.{Bool, true, false, not}
 use mathlib.Core.List.{List}
 use Prim.Native.Nat.{ℕ}
 use lib.Dec.{eqb}
-use lib.ListN.{length, take, drop}
+use lib.ListN.{length, take}
 use Rattle.octets.specs.Choice.{both}
 use Rattle.octets.specs.Parts.{Part}
 use Rattle.lines.specs.Reading.{held, reached}

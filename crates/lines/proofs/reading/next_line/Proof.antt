@@ -1,7 +1,6 @@
 -- At each octet what is read so far, read on through the rest, is the whole reading; behind the line the buffer is as it was.
-use mathlib.Core.Path.{_≡_, refl, sym, ap, ap₂, _∙_}
+use mathlib.Core.Path.{_≡_, refl, sym, ap, _∙_}
 use Prim.Native.Nat.{ℕ, _+_, _-_}
-use native.Mathlib.Omega.{arith}
 use lib.ListN.{length, getD, drop}
 use Rattle.lines.specs.Reading.{Held, held, fed, readOn}
 use Rattle.lines.proofs.Fed.{read-feed, read-more, read-end, same-behind, but-front}
