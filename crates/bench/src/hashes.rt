@@ -3,27 +3,19 @@ use crate::answer::done;
 use crate::answer::refused;
 use crate::asked::Frame;
 use crate::asked::sixteen;
-use crate::desk::Desk;
-use crate::desk::Reply;
 use answers::Refusal;
 use cipher::Hashed;
 use lines::Answer;
 use lines::hex;
 
-pub(crate) fn hash(f: Frame, desk: Desk) -> Reply {
+pub(crate) fn hash(f: Frame) -> Answer {
     let o = f.octets;
-    Reply {
-        answer: hashed(cipher::hash(text::front(&o, f.n))),
-        desk,
-    }
+    hashed(cipher::hash(text::front(&o, f.n)))
 }
 
-pub(crate) fn keyed_hash(key: Frame, f: Frame, desk: Desk) -> Reply {
+pub(crate) fn keyed_hash(key: Frame, f: Frame) -> Answer {
     let o = f.octets;
-    Reply {
-        answer: hashed(cipher::keyed_hash(sixteen(key), text::front(&o, f.n))),
-        desk,
-    }
+    hashed(cipher::keyed_hash(sixteen(key), text::front(&o, f.n)))
 }
 
 // The only fault that hashing has is an input that is too long.

@@ -2,10 +2,7 @@
 use crate::answer::done;
 use crate::answer::refused;
 use crate::asked::Frame;
-use crate::desk::Desk;
 use crate::desk::Moved;
-use crate::desk::Reply;
-use crate::desk::reply_moved;
 use crate::desk::room_of;
 use answers::Sealed;
 use board::Board;
@@ -13,13 +10,7 @@ use board::Sent;
 use lines::Answer;
 use lines::hex;
 
-pub(crate) fn seal(f: Frame, desk: Desk) -> Reply {
-    let b = desk.board;
-    let lent = desk.lent;
-    reply_moved(seal_network(f, b, lent.room), desk)
-}
-
-fn seal_network(f: Frame, b: Board, lent: usize) -> Moved {
+pub(crate) fn seal(f: Frame, b: Board, lent: usize) -> Moved {
     let o = f.octets;
     let mut out = [0u8; 256];
     let room = room_of(lent, &out);
@@ -27,13 +18,7 @@ fn seal_network(f: Frame, b: Board, lent: usize) -> Moved {
     written(sent, out)
 }
 
-pub(crate) fn seal_aps(partner: u64, identifier: u8, f: Frame, desk: Desk) -> Reply {
-    let b = desk.board;
-    let lent = desk.lent;
-    reply_moved(sealed_aps(partner, identifier, f, b, lent.room), desk)
-}
-
-fn sealed_aps(partner: u64, identifier: u8, f: Frame, b: Board, lent: usize) -> Moved {
+pub(crate) fn seal_aps(partner: u64, identifier: u8, f: Frame, b: Board, lent: usize) -> Moved {
     let o = f.octets;
     let mut out = [0u8; 256];
     let room = room_of(lent, &out);
