@@ -15,7 +15,8 @@ pub enum Request {
     Alone(Alone),
 }
 
-// The numbers of a request stand in its case; its octets stand beside it, in `Asked`.
+// The numbers of a request stand in its case, as its line has them; its octets stand beside it, in
+// `Asked`.
 pub enum OnBoard {
     Network(usize, u8),
     Switch(u8),
