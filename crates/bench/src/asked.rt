@@ -16,7 +16,8 @@ pub enum Request {
     Alone(Alone),
 }
 
-// The numbers of a request stand in its case; its octets stand beside it, in `Asked`.
+// The numbers of a request stand in its case, as its line has them; its octets stand beside it, in
+// `Asked`.
 pub enum OnBoard {
     Network(usize, u8),
     Switch(u8),
@@ -50,25 +51,28 @@ pub struct Asked {
 }
 
 pub(crate) fn asked_of(line: &[u8]) -> Asked {
-    if octets::same(text::field(line, 0), b"write") {
+    if is_write(line) {
         return asked_write(line);
     }
     let table = REQUESTS;
     let w = lines::row_of(&table, line, 0);
-    let form = text::field(&table, w * 2 + 1);
-    asked_by(request_by(w, line, form), line, form)
+    asked_by(false, w, line, text::field(&table, w * 2 + 1))
+}
+
+fn is_write(line: &[u8]) -> bool {
+    let acknowledged = text::which(b"ack\tnoack", text::field(line, 1));
+    acknowledged < 2 && octets::same(text::field(line, 0), b"write")
 }
 
 fn asked_write(line: &[u8]) -> Asked {
     let table = COMMANDS;
     let w = lines::row_of(&table, line, 2);
-    let form = text::field(&table, w * 2 + 1);
-    asked_by(write_by(w, line, form), line, form)
+    asked_by(true, w, line, text::field(&table, w * 2 + 1))
 }
 
-fn asked_by(request: Request, line: &[u8], form: &[u8]) -> Asked {
+fn asked_by(write: bool, w: usize, line: &[u8], form: &[u8]) -> Asked {
     Asked {
-        request,
+        request: request_by(write, w, line, form),
         key: octets_by(line, form, b"Kkh"),
         frame: octets_by(line, form, b"Fti"),
     }
@@ -84,11 +88,14 @@ fn octets_by(line: &[u8], form: &[u8], letters: &[u8]) -> Frame {
 }
 
 // A line that is no row has no form.
-fn request_by(w: usize, line: &[u8], form: &[u8]) -> Request {
+fn request_by(write: bool, w: usize, line: &[u8], form: &[u8]) -> Request {
     if form.len() == 0 {
         return Request::Bad;
     }
     let v = lines::numbers_of(line, form);
+    if write {
+        return Request::OnBoard(write_of(w, v, line));
+    }
     if w < ON_BOARD {
         return Request::OnBoard(on_board_of(w, v));
     }
@@ -123,11 +130,7 @@ fn alone_of(w: usize, v: [u64; 8]) -> Alone {
     }
 }
 
-fn write_by(w: usize, line: &[u8], form: &[u8]) -> Request {
-    let ack = text::which(b"ack\tnoack", text::field(line, 1));
-    if form.len() == 0 || ack > 1 {
-        return Request::Bad;
-    }
-    let command = command_of(w, lines::numbers_of(line, form));
-    Request::OnBoard(OnBoard::Write(ack == 0, command))
+fn write_of(w: usize, v: [u64; 8], line: &[u8]) -> OnBoard {
+    let ack = octets::same(text::field(line, 1), b"ack");
+    OnBoard::Write(ack, command_of(w, v))
 }

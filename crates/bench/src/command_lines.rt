@@ -1,9 +1,6 @@
 // APS commands, read and written.
 use crate::answer::done;
-use crate::desk::Desk;
 use crate::desk::Moved;
-use crate::desk::Reply;
-use crate::desk::reply_moved;
 use crate::desk::room_of;
 use crate::forms::COMMANDS;
 use crate::frame::Frame;
@@ -28,13 +25,13 @@ struct Spelt {
     v: [u64; 8],
 }
 
-pub(crate) fn read(guard: Guard, f: Frame, desk: Desk) -> Reply {
+pub(crate) fn read(guard: Guard, f: Frame) -> Answer {
     let o = f.octets;
-    let reading = commands::read_command(text::front(&o, f.n), guard);
-    Reply {
-        answer: told(reading, f, guard),
-        desk,
-    }
+    told(
+        commands::read_command(text::front(&o, f.n), guard),
+        f,
+        guard,
+    )
 }
 
 fn told(reading: Reading, f: Frame, guard: Guard) -> Answer {
@@ -80,22 +77,12 @@ fn with_field(a: Answer, kind: u8, x: u64, f: &[u8], guard: Guard) -> Answer {
     }
 }
 
-pub(crate) fn tlv(guard: Guard, tag: u8, f: Frame, desk: Desk) -> Reply {
+pub(crate) fn tlv(guard: Guard, tag: u8, f: Frame) -> Answer {
     let o = f.octets;
-    let value = commands::value_of(text::front(&o, f.n), guard, tag);
-    Reply {
-        answer: hex(done(), value),
-        desk,
-    }
+    hex(done(), commands::value_of(text::front(&o, f.n), guard, tag))
 }
 
-pub(crate) fn write(ack: bool, command: Command, key: Frame, rest: Frame, desk: Desk) -> Reply {
-    let b = desk.board;
-    let lent = desk.lent;
-    reply_moved(write_command(ack, command, key, rest, b, lent.room), desk)
-}
-
-fn write_command(
+pub(crate) fn write(
     ack: bool,
     command: Command,
     key: Frame,

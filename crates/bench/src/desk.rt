@@ -80,6 +80,10 @@ pub(crate) fn reply_bad(desk: Desk) -> Reply {
     }
 }
 
+pub(crate) fn reply_same(answer: Answer, desk: Desk) -> Reply {
+    Reply { answer, desk }
+}
+
 pub(crate) fn reply_held(held: Held, lent: Lent) -> Reply {
     let answer = held.answer;
     let b = held.board;
@@ -95,14 +99,6 @@ pub(crate) fn reply_held(held: Held, lent: Lent) -> Reply {
     }
 }
 
-pub(crate) fn reply_moved(moved: Moved, desk: Desk) -> Reply {
-    let answer = moved.answer;
-    let b = moved.board;
-    let mut next = desk;
-    next.board = b;
-    Reply { answer, desk: next }
-}
-
 // The board that a request leaves is taken as it is, refused or not: the library says what it is.
 pub(crate) fn after(done: After) -> Moved {
     let outcome = done.answer;
@@ -116,6 +112,15 @@ pub(crate) fn after(done: After) -> Moved {
 pub(crate) fn with_lists(moved: Moved, lists: Lists) -> Held {
     let answer = moved.answer;
     let b = moved.board;
+    Held {
+        answer,
+        board: b,
+        lists,
+    }
+}
+
+// A line that changes nothing.
+pub(crate) fn shown(answer: Answer, b: Board, lists: Lists) -> Held {
     Held {
         answer,
         board: b,

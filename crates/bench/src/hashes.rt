@@ -1,7 +1,5 @@
 // The hash and the keyed hash, which need no board.
 use crate::answer::done;
-use crate::desk::Desk;
-use crate::desk::Reply;
 use crate::frame::Frame;
 use crate::frame::sixteen;
 use answers::Refusal;
@@ -10,20 +8,14 @@ use lines::Answer;
 use lines::hex;
 use lines::refused;
 
-pub(crate) fn hash(f: Frame, desk: Desk) -> Reply {
+pub(crate) fn hash(f: Frame) -> Answer {
     let o = f.octets;
-    Reply {
-        answer: hashed(cipher::hash(text::front(&o, f.n))),
-        desk,
-    }
+    hashed(cipher::hash(text::front(&o, f.n)))
 }
 
-pub(crate) fn keyed_hash(key: Frame, f: Frame, desk: Desk) -> Reply {
+pub(crate) fn keyed_hash(key: Frame, f: Frame) -> Answer {
     let o = f.octets;
-    Reply {
-        answer: hashed(cipher::keyed_hash(sixteen(key), text::front(&o, f.n))),
-        desk,
-    }
+    hashed(cipher::keyed_hash(sixteen(key), text::front(&o, f.n)))
 }
 
 // The only fault that hashing has is an input that is too long.

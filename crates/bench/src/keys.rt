@@ -1,43 +1,37 @@
-// The requests that change keys.
+// The requests that change keys, two of which are lent the lists.
 use crate::answer::told;
-use crate::desk::Desk;
 use crate::desk::Held;
 use crate::desk::Lent;
 use crate::desk::Lists;
-use crate::desk::Reply;
+use crate::desk::Moved;
 use crate::desk::addresses_of;
 use crate::desk::after;
 use crate::desk::floors_of;
-use crate::desk::reply_held;
-use crate::desk::reply_moved;
 use crate::desk::with_lists;
 use crate::frame::Frame;
 use crate::frame::sixteen;
 use board::Board;
 
-pub(crate) fn switch(number: u8, desk: Desk) -> Reply {
-    let b = desk.board;
-    reply_moved(after(board::switch(b, number)), desk)
+pub(crate) fn switch(number: u8, b: Board) -> Moved {
+    after(board::switch(b, number))
 }
 
-pub(crate) fn link(partner: u64, key: Frame, desk: Desk) -> Reply {
-    let b = desk.board;
-    reply_moved(after(board::add_link(b, partner, sixteen(key))), desk)
+pub(crate) fn link(partner: u64, key: Frame, b: Board) -> Moved {
+    after(board::add_link(b, partner, sixteen(key)))
 }
 
-pub(crate) fn unlink(partner: u64, desk: Desk) -> Reply {
-    let b = desk.board;
-    reply_moved(after(board::remove_link(b, partner)), desk)
+pub(crate) fn unlink(partner: u64, b: Board) -> Moved {
+    after(board::remove_link(b, partner))
 }
 
-pub(crate) fn network(slot: usize, number: u8, key: Frame, desk: Desk) -> Reply {
-    let b = desk.board;
-    let lists = desk.lists;
-    let lent = desk.lent;
-    reply_held(install(slot, number, sixteen(key), b, lists, lent), lent)
-}
-
-fn install(slot: usize, number: u8, key: [u8; 16], b: Board, lists: Lists, lent: Lent) -> Held {
+pub(crate) fn network(
+    slot: usize,
+    number: u8,
+    key: Frame,
+    b: Board,
+    lists: Lists,
+    lent: Lent,
+) -> Held {
     let mut addrs = lists.addrs;
     let mut floors = lists.floors;
     let rows = addresses_of(lent.rows, &addrs);
@@ -48,19 +42,12 @@ fn install(slot: usize, number: u8, key: [u8; 16], b: Board, lists: Lists, lent:
         &mut floors[..tops],
         slot,
         number,
-        key,
+        sixteen(key),
     );
     with_lists(after(done), Lists { addrs, floors })
 }
 
-pub(crate) fn forget(slot: usize, sender: u64, desk: Desk) -> Reply {
-    let b = desk.board;
-    let lists = desk.lists;
-    let lent = desk.lent;
-    reply_held(forgotten(slot, sender, b, lists, lent), lent)
-}
-
-fn forgotten(slot: usize, sender: u64, b: Board, lists: Lists, lent: Lent) -> Held {
+pub(crate) fn forget(slot: usize, sender: u64, b: Board, lists: Lists, lent: Lent) -> Held {
     let mut addrs = lists.addrs;
     let mut floors = lists.floors;
     let rows = addresses_of(lent.rows, &addrs);

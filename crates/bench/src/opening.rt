@@ -1,15 +1,11 @@
 // Frames opened, at both layers.
 use crate::answer::done;
-use crate::desk::Desk;
 use crate::desk::Held;
 use crate::desk::Lent;
 use crate::desk::Lists;
 use crate::desk::Moved;
-use crate::desk::Reply;
 use crate::desk::addresses_of;
 use crate::desk::floors_of;
-use crate::desk::reply_held;
-use crate::desk::reply_moved;
 use crate::desk::room_of;
 use crate::frame::Frame;
 use answers::Guard;
@@ -24,14 +20,7 @@ use lines::hex;
 use lines::refused;
 use lines::word;
 
-pub(crate) fn open(f: Frame, desk: Desk) -> Reply {
-    let b = desk.board;
-    let lists = desk.lists;
-    let lent = desk.lent;
-    reply_held(open_network(f, b, lists, lent), lent)
-}
-
-fn open_network(f: Frame, b: Board, lists: Lists, lent: Lent) -> Held {
+pub(crate) fn open(f: Frame, b: Board, lists: Lists, lent: Lent) -> Held {
     let mut addrs = lists.addrs;
     let mut floors = lists.floors;
     let mut out = [0u8; 256];
@@ -70,13 +59,7 @@ fn looked_network(why: Refusal, b: Board, f: Frame) -> Answer {
     looked(a, network::look_frame(b, text::front(&o, f.n)))
 }
 
-pub(crate) fn open_aps(given: u64, f: Frame, desk: Desk) -> Reply {
-    let b = desk.board;
-    let lent = desk.lent;
-    reply_moved(opened_aps(given, f, b, lent.room), desk)
-}
-
-fn opened_aps(given: u64, f: Frame, b: Board, lent: usize) -> Moved {
+pub(crate) fn open_aps(given: u64, f: Frame, b: Board, lent: usize) -> Moved {
     let o = f.octets;
     let mut out = [0u8; 256];
     let room = room_of(lent, &out);

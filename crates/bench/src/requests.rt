@@ -1,13 +1,19 @@
 // A line's answer, by the request that it is.
 use crate::asked::Alone;
-use crate::asked::Asked;
 use crate::asked::OnBoard;
 use crate::asked::Request;
 use crate::asked::asked_of;
 use crate::command_lines;
 use crate::desk::Desk;
+use crate::desk::Held;
+use crate::desk::Lent;
+use crate::desk::Lists;
 use crate::desk::Reply;
 use crate::desk::reply_bad;
+use crate::desk::reply_held;
+use crate::desk::reply_same;
+use crate::desk::shown;
+use crate::desk::with_lists;
 use crate::frame::Frame;
 use crate::hashes;
 use crate::keys;
@@ -15,15 +21,13 @@ use crate::making;
 use crate::opening;
 use crate::sealing;
 use crate::show;
+use board::Board;
 
 pub(crate) fn reply_to(long: bool, line: &[u8], desk: Desk) -> Reply {
     if long {
         return reply_bad(desk);
     }
-    reply_asked(asked_of(line), desk)
-}
-
-fn reply_asked(asked: Asked, desk: Desk) -> Reply {
+    let asked = asked_of(line);
     let request = asked.request;
     let key = asked.key;
     let frame = asked.frame;
@@ -38,20 +42,29 @@ fn with_board(r: OnBoard, key: Frame, f: Frame, desk: Desk) -> Reply {
     if !desk.ready {
         return reply_bad(desk);
     }
+    let b = desk.board;
+    let lists = desk.lists;
+    let lent = desk.lent;
+    reply_held(on_board(r, key, f, b, lists, lent), lent)
+}
+
+// The desk is paid for in every arm that holds it, so that these are handed its parts.
+fn on_board(r: OnBoard, key: Frame, f: Frame, b: Board, lists: Lists, lent: Lent) -> Held {
+    let room = lent.room;
     match r {
-        OnBoard::Network(slot, number) => keys::network(slot, number, key, desk),
-        OnBoard::Switch(number) => keys::switch(number, desk),
-        OnBoard::Link(partner) => keys::link(partner, key, desk),
-        OnBoard::Unlink(partner) => keys::unlink(partner, desk),
-        OnBoard::Forget(slot, sender) => keys::forget(slot, sender, desk),
-        OnBoard::Open => opening::open(f, desk),
-        OnBoard::OpenAps(sender) => opening::open_aps(sender, f, desk),
-        OnBoard::Seal => sealing::seal(f, desk),
-        OnBoard::SealAps(partner, identifier) => sealing::seal_aps(partner, identifier, f, desk),
-        OnBoard::Write(ack, command) => command_lines::write(ack, command, key, f, desk),
-        OnBoard::State => show::state(desk),
-        OnBoard::Heard(slot) => show::heard(slot, desk),
-        OnBoard::Links => show::links(desk),
+        OnBoard::Network(slot, n) => keys::network(slot, n, key, b, lists, lent),
+        OnBoard::Switch(n) => with_lists(keys::switch(n, b), lists),
+        OnBoard::Link(a) => with_lists(keys::link(a, key, b), lists),
+        OnBoard::Unlink(a) => with_lists(keys::unlink(a, b), lists),
+        OnBoard::Forget(slot, a) => keys::forget(slot, a, b, lists, lent),
+        OnBoard::Open => opening::open(f, b, lists, lent),
+        OnBoard::OpenAps(a) => with_lists(opening::open_aps(a, f, b, room), lists),
+        OnBoard::Seal => with_lists(sealing::seal(f, b, room), lists),
+        OnBoard::SealAps(a, id) => with_lists(sealing::seal_aps(a, id, f, b, room), lists),
+        OnBoard::State => shown(show::state(b), b, lists),
+        OnBoard::Heard(slot) => shown(show::heard(slot, lists), b, lists),
+        OnBoard::Links => shown(show::links(b), b, lists),
+        OnBoard::Write(ack, c) => with_lists(command_lines::write(ack, c, key, f, b, room), lists),
     }
 }
 
@@ -59,9 +72,9 @@ fn without_board(r: Alone, key: Frame, f: Frame, desk: Desk) -> Reply {
     match r {
         Alone::Board(own, counter) => making::make(own, counter, desk),
         Alone::Lend(room, rows, tops) => making::lend(room, rows, tops, desk),
-        Alone::Read(guard) => command_lines::read(guard, f, desk),
-        Alone::Tlv(guard, tag) => command_lines::tlv(guard, tag, f, desk),
-        Alone::Hash => hashes::hash(f, desk),
-        Alone::KeyedHash => hashes::keyed_hash(key, f, desk),
+        Alone::Read(guard) => reply_same(command_lines::read(guard, f), desk),
+        Alone::Tlv(guard, tag) => reply_same(command_lines::tlv(guard, tag, f), desk),
+        Alone::Hash => reply_same(hashes::hash(f), desk),
+        Alone::KeyedHash => reply_same(hashes::keyed_hash(key, f), desk),
     }
 }

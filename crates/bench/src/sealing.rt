@@ -1,9 +1,6 @@
 // Frames sealed, at both layers.
 use crate::answer::done;
-use crate::desk::Desk;
 use crate::desk::Moved;
-use crate::desk::Reply;
-use crate::desk::reply_moved;
 use crate::desk::room_of;
 use crate::frame::Frame;
 use answers::Sealed;
@@ -13,13 +10,7 @@ use lines::Answer;
 use lines::hex;
 use lines::refused;
 
-pub(crate) fn seal(f: Frame, desk: Desk) -> Reply {
-    let b = desk.board;
-    let lent = desk.lent;
-    reply_moved(seal_network(f, b, lent.room), desk)
-}
-
-fn seal_network(f: Frame, b: Board, lent: usize) -> Moved {
+pub(crate) fn seal(f: Frame, b: Board, lent: usize) -> Moved {
     let o = f.octets;
     let mut out = [0u8; 256];
     let room = room_of(lent, &out);
@@ -27,13 +18,7 @@ fn seal_network(f: Frame, b: Board, lent: usize) -> Moved {
     sealed(sent, out)
 }
 
-pub(crate) fn seal_aps(partner: u64, identifier: u8, f: Frame, desk: Desk) -> Reply {
-    let b = desk.board;
-    let lent = desk.lent;
-    reply_moved(sealed_aps(partner, identifier, f, b, lent.room), desk)
-}
-
-fn sealed_aps(partner: u64, identifier: u8, f: Frame, b: Board, lent: usize) -> Moved {
+pub(crate) fn seal_aps(partner: u64, identifier: u8, f: Frame, b: Board, lent: usize) -> Moved {
     let o = f.octets;
     let mut out = [0u8; 256];
     let room = room_of(lent, &out);

@@ -1,26 +1,16 @@
 // What a board holds.
 use crate::answer::done;
-use crate::desk::Desk;
 use crate::desk::Lists;
-use crate::desk::Reply;
-use crate::desk::reply_bad;
 use board::Active;
 use board::Board;
 use board::Link;
 use lines::Answer;
 use lines::address;
 use lines::decimal;
+use lines::first;
 use lines::word;
 
-pub(crate) fn state(desk: Desk) -> Reply {
-    let b = desk.board;
-    Reply {
-        answer: counters(b),
-        desk,
-    }
-}
-
-fn counters(b: Board) -> Answer {
+pub(crate) fn state(b: Board) -> Answer {
     let outgoing = decimal(done(), b.outgoing as u64);
     let mark = b.active;
     active(decimal(outgoing, b.aps as u64), mark)
@@ -33,15 +23,7 @@ fn active(a: Answer, mark: Active) -> Answer {
     }
 }
 
-pub(crate) fn links(desk: Desk) -> Reply {
-    let b = desk.board;
-    Reply {
-        answer: entries(b),
-        desk,
-    }
-}
-
-fn entries(b: Board) -> Answer {
+pub(crate) fn links(b: Board) -> Answer {
     let links = b.links;
     let mut a = done();
     for i in 0..8 {
@@ -60,15 +42,11 @@ fn link(a: Answer, i: usize, l: Link) -> Answer {
 }
 
 // There are two slots, 0 and 1.
-pub(crate) fn heard(slot: usize, desk: Desk) -> Reply {
+pub(crate) fn heard(slot: usize, lists: Lists) -> Answer {
     if slot > 1 {
-        return reply_bad(desk);
+        return first(b"bad");
     }
-    let lists = desk.lists;
-    Reply {
-        answer: rows(slot, lists),
-        desk,
-    }
+    rows(slot, lists)
 }
 
 // The stored rows, lent or not.

@@ -10,11 +10,11 @@ use Rattle.octets.specs.Choice.{if_then_else_, both}
 use Rattle.octets.specs.Lists.{at, eqList}
 use Rattle.text.specs.Fields.{fields, fieldAt}
 use Rattle.lines.specs.declared.forms.Value.{Value}
-use Rattle.lines.specs.Kinds.{kindOf, valueOf, good, number}
+use Rattle.lines.specs.Kinds.{fieldKind, valueOf, good, worth}
 
 -- field i of line l, counted from 0, by its letter in form f; a letter that the form does not have is 0
 unfoldable pub valueAt : List ℕ → List ℕ → ℕ → Value
-valueAt l f i = valueOf (kindOf (at f i)) (fieldAt l i)
+valueAt l f i = valueOf (fieldKind (at f i)) (fieldAt l i)
 
 -- the first n fields are good
 unfoldable pub firstGood : List ℕ → List ℕ → ℕ → Bool
@@ -38,9 +38,9 @@ rowFrom t l k r (suc n) = if isRow t l k r then r else rowFrom t l k (suc r) n
 unfoldable pub rowOf : List ℕ → List ℕ → ℕ → ℕ
 rowOf t l k = rowFrom t l k 0 (fields t / 2)
 
--- the number in field i
-unfoldable pub numberAt : List ℕ → List ℕ → ℕ → ℕ
-numberAt l f i = number (valueAt l f i)
+-- what field i is worth
+unfoldable pub worthAt : List ℕ → List ℕ → ℕ → ℕ
+worthAt l f i = worth (valueAt l f i)
 
 -- c is one of these letters
 unfoldable pub among : ℕ → List ℕ → Bool

@@ -23,8 +23,8 @@ use Rattle.lines.specs.declared.forms.Kind.the-variants as kinds
 use Rattle.lines.specs.declared.forms.Value.the-variants.{Is, Bad}
 
 -- the kind that a letter stands for: A, B, S, C, T, K, F, G, X, and k, h, i, t
-unfoldable pub kindOf : ℕ → Kind
-kindOf c =
+unfoldable pub fieldKind : ℕ → Kind
+fieldKind c =
     if eqb c 65 then kinds.Address else
     if eqb c 66 then kinds.Decimal 255 else
     if eqb c 83 then kinds.Decimal 65535 else
@@ -44,35 +44,35 @@ abbrev pub none : List ℕ
 none = 110 ∷ 111 ∷ 110 ∷ 101 ∷ []
 
 -- l is hex of whole octets
-unfoldable pub isHex : List ℕ → Bool
-isHex l = both (eqb (length l % 2) 0) (allDigits 16 l)
+unfoldable pub wholeHex : List ℕ → Bool
+wholeHex l = both (eqb (length l % 2) 0) (allDigits 16 l)
 
 -- so many, which are to be so many at least and at most
-unfoldable pub within : ℕ → ℕ → ℕ → Value
-within least most n = if both (leb least n) (leb n most) then Is n else Bad
+unfoldable pub between : ℕ → ℕ → ℕ → Value
+between least most n = if both (leb least n) (leb n most) then Is n else Bad
 
-abbrev pub addressed : Address → Value
-addressed (addresses.Is a) = Is a
-addressed addresses.Bad = Bad
+abbrev pub ofAddress : Address → Value
+ofAddress (addresses.Is a) = Is a
+ofAddress addresses.Bad = Bad
 
-abbrev pub counted : Number → Value
-counted (numbers.Is n) = Is n
-counted numbers.Bad = Bad
+abbrev pub ofNumber : Number → Value
+ofNumber (numbers.Is n) = Is n
+ofNumber numbers.Bad = Bad
 
 -- what the field l is worth by its kind; `none` is told as 256, octets by how many they are
 unfoldable pub valueOf : Kind → List ℕ → Value
 valueOf kinds.Word l = Is 0
-valueOf kinds.Address l = addressed (addressOf l)
-valueOf (kinds.Decimal most) l = counted (numberOf l most)
-valueOf kinds.Protection l = if eqList l none then Is 256 else counted (numberOf l 255)
-valueOf (kinds.Hex least most) l = if isHex l then within least most (length l / 2) else Bad
-valueOf (kinds.Text least most) l = within least most (length l)
+valueOf kinds.Address l = ofAddress (addressOf l)
+valueOf (kinds.Decimal most) l = ofNumber (numberOf l most)
+valueOf kinds.Protection l = if eqList l none then Is 256 else ofNumber (numberOf l 255)
+valueOf (kinds.Hex least most) l = if wholeHex l then between least most (length l / 2) else Bad
+valueOf (kinds.Text least most) l = between least most (length l)
 
 abbrev pub good : Value → Bool
 good (Is n) = true
 good Bad = false
 
--- the number of a good field, 0 of a bad one
-abbrev pub number : Value → ℕ
-number (Is n) = n
-number Bad = 0
+-- what a good field is worth; a bad one is worth 0
+abbrev pub worth : Value → ℕ
+worth (Is n) = n
+worth Bad = 0

@@ -5,8 +5,8 @@ ghost use lib.ListN.{length};
 ghost use Rattle.octets.specs.Lists.{at, tab};
 ghost use Rattle.text.specs.Fields.{fieldAt};
 ghost use Rattle.text.specs.Hex.{readInto, unhexed};
-ghost use Rattle.lines.specs.Kinds.{kindOf, within, valueOf, good, number};
-ghost use Rattle.lines.specs.Forms.{valueAt, hasForm, isRow, rowOf, numberAt, among, placeOf};
+ghost use Rattle.lines.specs.Kinds.{fieldKind, between, valueOf, good, worth};
+ghost use Rattle.lines.specs.Forms.{valueAt, hasForm, isRow, rowOf, worthAt, among, placeOf};
 ghost use Rattle.lines.specs.declared.forms.Kind.the-variants as kinds;
 use text::Address;
 use text::Number;
@@ -32,7 +32,7 @@ pub enum Value {
 
 // The kind that a letter stands for; any other letter is a word's.
 pub fn kind_of(letter: u8) -> Kind
-    ensures { λ r. ⌜ r ≡ kindOf letter ⌝ }
+    ensures { λ r. ⌜ r ≡ fieldKind letter ⌝ }
 {
     match letter {
         b'A' => Kind::Address,
@@ -108,7 +108,7 @@ fn hex_value(s: &[u8], least: usize, most: usize) -> Value
 }
 
 fn count_value(n: usize, least: usize, most: usize) -> Value
-    ensures { λ r. ⌜ r ≡ within least most n ⌝ }
+    ensures { λ r. ⌜ r ≡ between least most n ⌝ }
 {
     if n < least {
         return Value::Bad;
@@ -161,7 +161,7 @@ fn is_row(table: &[u8], r: usize, line: &[u8], k: usize) -> bool
 // The numbers of the first eight fields, each at its field's place; 0 for a bad field, and for one
 // that the form does not have.
 pub fn numbers_of(line: &[u8], form: &[u8]) -> [u64; 8]
-    ensures { λ r. ⌜ r ≡ tab 8 (numberAt (now (line .entry)) (now (form .entry))) ⌝ }
+    ensures { λ r. ⌜ r ≡ tab 8 (worthAt (now (line .entry)) (now (form .entry))) ⌝ }
 {
     let mut numbers = [0u64; 8];
     for i in 0..8 {
@@ -186,7 +186,7 @@ fn is_good(v: Value) -> bool
 }
 
 fn number_in(v: Value) -> u64
-    ensures { λ r. ⌜ r ≡ number v ⌝ }
+    ensures { λ r. ⌜ r ≡ worth v ⌝ }
 {
     match v {
         Value::Is(n) => n,

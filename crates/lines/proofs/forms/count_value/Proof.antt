@@ -1,20 +1,20 @@
 -- The two tests are those of `within`.
 use Rattle.octets.proofs.Choices.{tests}
-use Rattle.lines.specs.Kinds.{within}
+use Rattle.lines.specs.Kinds.{between}
 use borrow.Author.Needs.{needs}
 use Rattle.lines.proofs.forms.count_value.Statement.{statement}
 use Rattle.lines.proofs.forms.count_value.Tie as tie
 
 returns : tie.Need-returns
-unfolding within
+unfolding between
 returns c = search (tests, needs)
 
 returns-2 : tie.Need-returns-2
-unfolding within
+unfolding between
 returns-2 c = search (tests, needs)
 
 returns-3 : tie.Need-returns-3
-unfolding within
+unfolding between
 returns-3 c = search (tests, needs)
 
 pub count-value-spec : {M : Type 1} → statement M

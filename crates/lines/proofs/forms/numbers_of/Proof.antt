@@ -3,14 +3,14 @@ use mathlib.Core.Path.{_≡_, refl, sym, _∙_, ap}
 use Prim.Native.Nat.{_+_, _≤_, _-_}
 use native.Mathlib.Omega.{arith}
 use Rattle.octets.proofs.Filled.{Filled, none, more, all}
-use Rattle.lines.specs.Kinds.{number}
-use Rattle.lines.specs.Forms.{numberAt}
+use Rattle.lines.specs.Kinds.{worth}
+use Rattle.lines.specs.Forms.{worthAt}
 use borrow.Author.Needs.{needs}
 use Rattle.lines.proofs.forms.numbers_of.Statement.{statement}
 use Rattle.lines.proofs.forms.numbers_of.Tie as tie
 
 abbrev Inv-loop : tie.InvT-loop
-Inv-loop line form numbers₀ i₀ numbers i = Filled 8 0 (numberAt line form) i numbers
+Inv-loop line form numbers₀ i₀ numbers i = Filled 8 0 (worthAt line form) i numbers
 
 abbrev μ-loop : tie.MeasureT-loop
 μ-loop line form numbers₀ i₀ numbers i = 8 - i
@@ -37,14 +37,14 @@ loop-less : tie.Need-loop-less Inv-loop μ-loop
 loop-less c = search needs
 
 loop-again : tie.Need-loop-again Inv-loop μ-loop
-unfolding numberAt
+unfolding worthAt
 loop-again c =
     let start : tie.Start Inv-loop μ-loop = search in
     let x = start .args in
     let at-loop : tie.At-loop Inv-loop μ-loop = search in
     let l = at-loop .loop in
     let after-number : tie.After-number-in Inv-loop μ-loop = search in
-    let read = after-number .number-in .ensures ∙ ap number (after-number .before .value-at .ensures) in
+    let read = after-number .number-in .ensures ∙ ap worth (after-number .before .value-at .ensures) in
     more _ _ _ _ _ _ (l .inv) (search needs) read
 
 returns : tie.Need-returns Inv-loop μ-loop

@@ -2,7 +2,7 @@
 use mathlib.Core.Path.{_≡_, sym, _∙_, ap, ap₂}
 use Rattle.octets.specs.Parts.{Part}
 use Rattle.lines.specs.Forms.{valueAt}
-use Rattle.lines.specs.Kinds.{kindOf, valueOf}
+use Rattle.lines.specs.Kinds.{fieldKind, valueOf}
 use borrow.Author.Needs.{needs}
 use Rattle.lines.proofs.forms.value_at.Statement.{statement}
 use Rattle.lines.proofs.forms.value_at.Tie as tie
@@ -22,7 +22,7 @@ value-of-requires c κs = search needs
 returns : tie.Need-returns
 unfolding valueAt
 returns c =
-    let kind = c .before .before .kind-of .ensures ∙ ap kindOf (c .before .before .before .octet .ensures) in
+    let kind = c .before .before .kind-of .ensures ∙ ap fieldKind (c .before .before .before .octet .ensures) in
     c .value-of .ensures ∙ ap₂ valueOf kind (ap (λ (p : Part). p .octets) (c .before .field .ensures))
 
 pub value-at-spec : {M : Type 1} → statement M

@@ -1,7 +1,7 @@
 use Prim.Native.Nat.{_≤_, _-_}
 use borrow.Author.Needs.{needs}
-use Rattle.bench.proofs.show.entries.Statement.{statement}
-use Rattle.bench.proofs.show.entries.Tie as tie
+use Rattle.bench.proofs.show.links.Statement.{statement}
+use Rattle.bench.proofs.show.links.Tie as tie
 
 abbrev Inv-loop : tie.InvT-loop
 Inv-loop entries a₀ i₀ a i = i ≤ 8
@@ -36,8 +36,8 @@ loop-again c = search needs
 returns : tie.Need-returns Inv-loop μ-loop
 returns c = search needs
 
-pub entries-spec : {M : Type 1} → statement M
-entries-spec =
+pub links-spec : {M : Type 1} → statement M
+links-spec =
     tie.close
     (tie.spec
     Inv-loop
