@@ -1,4 +1,4 @@
--- The two tests are those of `within`.
+-- The two tests are those of `between`.
 use Rattle.octets.proofs.Choices.{tests}
 use Rattle.lines.specs.Kinds.{between}
 use borrow.Author.Needs.{needs}
