@@ -99,10 +99,7 @@ pub fn seal_frame(board: Board, frame: &[u8], out: &mut [u8]) -> Sent
 {
     let slots = board.slots;
     let active = board.active;
-    let sending = Sending {
-        own: board.own,
-        counter: board.outgoing,
-    };
+    let sending = board::sending_of(board);
     let answer = seal_read(slots, active, sending, frame, out);
     let mut next = board;
     next.outgoing = board::counter_after(answer, board.outgoing);
