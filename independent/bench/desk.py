@@ -1,6 +1,7 @@
 """The desk of the program `bench`: one board, its stored lists, and what is lent.
 
-The bench language, "Lines", "Stale or forged" and its table; DECISIONS, "The bench language".
+The bench language, "Lines", "Stale or forged", its table and the lines that document 02 brings;
+DECISIONS, "The bench language".
 """
 
 from .. import lines
@@ -44,6 +45,7 @@ class Desk:
             (b"lend", 3): ((SHORT, SHORT, SHORT), self.lend),
             (b"read", 2): ((protection_field, FRAME), self.read),
             (b"tlv", 3): ((protection_field, OCTET, FRAME), self.tlv),
+            (b"route", 2): ((protection_field, FRAME), self.route),
             (b"hash", 1): ((FRAME,), lambda f: [mmo.digest(f)]),
             (b"keyedhash", 2): ((KEY, FRAME), self.keyed_hash),
         }
@@ -169,6 +171,11 @@ class Desk:
             return [commands.read(under, frame).value_of(tag)]
         except lines.Refused:
             return [b""]
+
+    def route(self, under, frame):
+        """Routes a Tunnel."""
+        destination, *parts = commands.route(under, frame)
+        return [lines.address(destination), *parts]
 
     def write(self, fields):
         """Writes a command."""

@@ -1,8 +1,8 @@
-"""The reader and the writer of APS commands, their parts and TLVs.
+"""The reader and the writer of APS commands, their parts and TLVs, and the router.
 
-Document 01, "The commands" and the table of refusals; the fields' order is that of source document
-000, 4.4.11.1 to 4.4.11.10; DECISIONS, addresses-unjudged, relay-any-tlv, readers-header,
-parts-empty and writers-order.
+Document 01, "The commands" and the table of refusals; document 02 (i); the fields' order is that of
+source document 000, 4.4.11.1 to 4.4.11.10; DECISIONS, addresses-unjudged, relay-any-tlv,
+readers-header, parts-empty, writers-order, and i-inner-order to i-inner-parts.
 """
 
 from dataclasses import dataclass
@@ -13,10 +13,12 @@ from ..lines import refuse_if
 MOST = 108
 ROOM = 108
 LEAST_INNER = 20
+INNER_HEADER, INNER_AUXILIARY = 2, 13              # octets
 PROTECTIONS = (None, 0, 2, 3)
 
 OCTET, SHORT, ADDRESS = 1, 2, 8                    # numbers, by their octets
 KEY, HASH, INNER, TLVS = "key", "hash", "inner", "tlvs"
+HEADER, AUXILIARY, PAYLOAD, TAG = "header", "auxiliary", "payload", "tag"  # of an inner frame
 SIXTEEN = (KEY, HASH)
 
 
@@ -68,12 +70,38 @@ def relays(tlvs):
     return any(tag == 0 and len(value) >= 8 for tag, value in tlvs)
 
 
+# ---- inside of a tunnel ------------------------------------------------------------------------
+
+def stands_inside(inner):
+    """Whether a Tunnel may hold the frame: after 01's size check, "the inner header is 2 octets for
+    a command, secured, without acknowledgement", and "the inner security control names identifier
+    0, 2 or 3 with extended nonce" (document 02). Sender, counter and tag are not judged."""
+    if len(inner) < LEAST_INNER:
+        return False
+    control, security = inner[0], inner[INNER_HEADER]
+    command = control & 3 == 1 and headers.aps_form(control) == INNER_HEADER
+    secured = control >> 5 & 1 == 1
+    acknowledged = control >> 6 & 1 == 1
+    named = security >> 3 & 3 in (0, 2, 3)
+    extended_nonce = security >> 5 & 1 == 1
+    return command and secured and not acknowledged and named and extended_nonce
+
+
+def inner_parts(inner):
+    """The parts of a frame that stands inside, in the order of source document 000, 4.4.11.6."""
+    start, end = INNER_HEADER + INNER_AUXILIARY, len(inner) - headers.TAG
+    return {HEADER: inner[:INNER_HEADER], AUXILIARY: inner[INNER_HEADER:start],
+            PAYLOAD: inner[start:end], TAG: inner[end:]}
+
+
+# ---- parts -------------------------------------------------------------------------------------
+
 def fits(kind, field, value):
     """Whether the octets of a key, hash, inner frame or of all TLVs are as in the list."""
     if field in SIXTEEN:
         return len(value) == 16
     if field == INNER:
-        return len(value) >= LEAST_INNER
+        return stands_inside(value)
     tlvs = tlvs_of(value)
     return tlvs is not None and (relays(tlvs) or not kind.relay)
 
@@ -86,9 +114,13 @@ class Command:
     kind: Kind
     values: tuple
 
-    def part(self, field):
-        """The octets of a key, hash, inner frame or of all TLVs; empty if there are none."""
-        return dict(zip(self.kind.fields, self.values)).get(field, b"")
+    def part(self, name):
+        """The octets of a key, hash, inner frame, one of its parts, or of all TLVs; empty if there
+        are none."""
+        parts = dict(zip(self.kind.fields, self.values))
+        if INNER in parts:
+            parts.update(inner_parts(parts[INNER]))
+        return parts.get(name, b"")
 
     def value_of(self, tag):
         """The value of the first TLV of a tag; empty if there is none."""
@@ -132,6 +164,17 @@ def read(protection, frame):
     command = command_of(frame[header:])
     refuse_if(protection not in command.kind.protections, 12)
     return command
+
+
+# ---- routing -----------------------------------------------------------------------------------
+
+def route(protection, frame):
+    """What the router hands on of a Tunnel: destination, inner frame and the parts of it. Another
+    command is 11, after the reader's refusals."""
+    command = read(protection, frame)
+    refuse_if(command.kind != BY_WORD["tunnel"], 11)
+    destination, inner = command.values
+    return destination, inner, *inner_parts(inner).values()
 
 
 # ---- writing -----------------------------------------------------------------------------------
