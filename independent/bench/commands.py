@@ -10,7 +10,7 @@ from .tools import ALL_ONES, OWN, no
 
 DEVICE, TRUST = 0x00124B00AABBCCDD, 0x0102030405060708
 WIRE_DEVICE, WIRE_TRUST = bytes.fromhex("ddccbbaa004b1200"), bytes.fromhex("0807060504030201")
-KEY, HASH, INNER = run_of(16, 40), run_of(16, 90), b"\x21\x05" + run_of(18, 7)
+KEY, HASH, INNER = run_of(16, 40), run_of(16, 90), b"\x21\x05\x20" + run_of(17, 7)
 RELAY = b"\x00\x08" + run_of(8)
 UNDER = {"transport1": (2,), "transport2": (3,), "transport3": (3,), "transport4": (3,),
          "update": (0,), "remove": (0,), "request2": (0,), "request4": (0,),
@@ -248,7 +248,7 @@ def add_limits(bench, counter):
             bench.add("write", "ack", word, *fields[:-1], part,
                       expect=ok(bytes([0x41, counter]) + full) if good else no(2))
             counter += good
-    bench.add("write", "ack", "tunnel", address(0), bytes(256), expect=no(2))
+    bench.add("write", "ack", "tunnel", address(0), INNER + bytes(236), expect=no(2))
     bench.add("write", "noack", "down", b"\x00\xfe" + bytes(254), expect=no(2))
     bench.state(77, counter, "-")
     return counter
@@ -263,7 +263,7 @@ def add_wrong_parts(bench, counter):
             if not isinstance(field, bytes):
                 continue
             if field == INNER:
-                wrong = [bytes(n) for n in (0, 1, 19)]
+                wrong = [INNER[:n] for n in (0, 1, 19)]
             elif field in (KEY, HASH):
                 wrong = [bytes(n) for n in (0, 1, 15, 17, 32, 256)]
             else:

@@ -12,6 +12,9 @@ from .tools import (ALL_ONES, COMMAND_HEADER, NETWORK_HEADER, OWN, TOP, WELL_KNO
 OTHER = 0x00124B00AABBCCDD
 A, K, F = address(OTHER), key(1).hex(), "0800fcff00001e0155"
 SWITCH_KEY = "410709" + "05"
+INNER = "210520" + "00" * 17
+TUNNEL = "41070e" + "ddccbbaa004b1200" + INNER
+HANDED_ON = ok(A, INNER, "2105", "20" + "00" * 12, "00", "00" * 4)
 
 WRONG_ADDRESSES = ("", A[1:], A + "0", A[2:], A + "00", A[:-1] + "g", "0x" + A[2:], " " + A[1:],
                    A + " ", A + "\r", A + "\0", A[:-2] + "é", "-" + A[1:], A[:8] + " " + A[9:])
@@ -36,13 +39,13 @@ WRONG = {"A": WRONG_ADDRESSES, "K": WRONG_KEYS, "F": WRONG_FRAMES, "B": WRONG_OC
 
 FORMS = (("board", "A"), ("board", "AC"), ("lend", "SSS"), ("network", "BBK"), ("switch", "B"),
          ("link", "AK"), ("unlink", "A"), ("forget", "BA"), ("open", "F"), ("openaps", "AF"),
-         ("seal", "F"), ("sealaps", "ABF"), ("read", "TF"), ("tlv", "TBF"), ("hash", "F"),
-         ("keyedhash", "KF"), ("state", ""), ("heard", "B"), ("links", ""))
+         ("seal", "F"), ("sealaps", "ABF"), ("read", "TF"), ("tlv", "TBF"), ("route", "TF"),
+         ("hash", "F"), ("keyedhash", "KF"), ("state", ""), ("heard", "B"), ("links", ""))
 COMMANDS = (("transport1", "PBAA"), ("transport4", "PAAP"), ("transport2", "PABP"),
             ("transport3", "PABP"), ("update", "ASBP"), ("remove", "A"), ("request2", "A"),
             ("request4", ""), ("switchkey", "B"), ("tunnel", "AP"), ("verify", "BAP"),
             ("confirm", "BBA"), ("down", "P"), ("up", "P"))
-BOARDLESS = ("board", "lend", "read", "tlv", "hash", "keyedhash")
+BOARDLESS = ("board", "lend", "read", "tlv", "route", "hash", "keyedhash")
 
 
 def good_fields(kinds):
@@ -70,6 +73,9 @@ def add_without_board(bench):
     bench.add("read", "none", SWITCH_KEY, expect=ok("switchkey", 5))
     bench.add("read", 1, SWITCH_KEY, expect=no(14))
     bench.add("tlv", "none", 0, SWITCH_KEY, expect=ok(""))
+    bench.add("route", "none", TUNNEL, expect=HANDED_ON)
+    for under, frame, number in (("none", SWITCH_KEY, 11), (0, TUNNEL, 12), (1, TUNNEL, 14)):
+        bench.add("route", under, frame, expect=no(number))
     bench.add("hash", "", expect=ok(mmo.digest(b"")))
     bench.add("keyedhash", WELL_KNOWN, "00", expect=ok(mmo.keyed(WELL_KNOWN, b"\0")))
     bench.add("keyedhash", WELL_KNOWN, bytes(241), expect=no(2))
@@ -194,7 +200,8 @@ def add_words(bench):
     """Words that are none, and blanks, carriage returns and other octets around good lines."""
     bench.group("words that are none")
     for line in ("boards\t" + A, "boar\t" + A, "BOARD\t" + A, "Board\t" + A, "hashes\t00",
-                 "has\t00",
+                 "has\t00", "routes\tnone\t" + TUNNEL, "rout\tnone\t" + TUNNEL,
+                 "Route\tnone\t" + TUNNEL, "route\tack\t" + TUNNEL, "route\tnone " + TUNNEL,
                  "states", "stat", "State", "link", "open aps\t" + A + "\t" + F, "writeack",
                  "write", "write\tack", "write\tnoack", "write\tACK\trequest4",
                  "write\tacks\trequest4",
@@ -236,6 +243,7 @@ def add_overlong(bench):
     bench.add("write", "noack", "transport4", longest, A, A, longest, expect=no(11))
     bench.add("openaps", A, longest, expect=no(2))
     bench.add("tlv", "none", 255, longest, expect=ok(""))
+    bench.add("route", "none", longest, expect=no(2))
     bench.add("hash", longest, expect=ok(mmo.digest(longest)))
 
 
@@ -253,6 +261,7 @@ def add_fine(bench):
     bench.links((0, OTHER, 0))
     bench.raw("openaps\t" + A + "\t" + aps_frame(key(1), 0, OTHER, 4, b"\xab").hex().upper(),
               opened(OTHER, 0, COMMAND_HEADER + b"\xab"))
+    bench.raw("route\tnone\t" + TUNNEL.upper(), HANDED_ON)
     bench.group("DECISIONS, empty-hex: empty hex is an empty field, read and written")
     bench.raw("hash\t", ok(mmo.digest(b"")))
     bench.raw(f"keyedhash\t{K}\t", ok(mmo.keyed(key(1), b"")))
@@ -262,6 +271,7 @@ def add_fine(bench):
     bench.raw(f"sealaps\t{A}\t0\t", no(3))
     bench.raw("read\tnone\t", no(3))
     bench.raw("tlv\tnone\t0\t", "ok\t")
+    bench.raw("route\tnone\t", no(3))
 
 
 def add_bad_lines(bench):

@@ -9,6 +9,7 @@ from ..lines import Chance, address, flip, ok, run_of, sure
 from ..model import mmo, opening
 from .tools import (DATA_HEADER, GENUINE, OWN, WELL_KNOWN, Station, aps_frame, key, no, opened,
                     unsecured)
+from .tunnels import handed_on
 
 CENTRE, ROUTER, END = 0xAAAAAAAAAAAAAAAA, 0x0000000100000000, 0x0000000000000001
 NETWORK_KEY = bytes.fromhex("abcdef01234567890000000000000000")
@@ -67,6 +68,7 @@ def add_device(bench, station, unique, ack, router=None):
         sure(tunnel[2:] == b"\x0e" + wire(own) + frame, "the tunnel has other octets", tunnel.hex())
         bench.seal(TO_ROUTER + tunnel)
         bench.add("read", "none", tunnel, expect=ok("tunnel", address(own), frame))
+        bench.add("route", "none", tunnel, expect=handed_on(frame, own))
     take_in(bench, station, 0, b"\x41\x01\x08\x04", ok("request4"))
     hand_out(bench, station, 3, "ack", "transport4", unique, address(own), address(CENTRE), b"")
     bench.link(own, unique)
@@ -237,6 +239,22 @@ class Play:
             sure(given == (OWN, identifier, plain), "a frame of the play opens to another",
                  plain.hex())
 
+    def tunnelling(self):
+        """The desk seals and wraps, routes, and a station's board opens what was handed on; or the
+        tunnel is routed with one bit changed."""
+        station, identifier = self.chance.pick(self.stations[:8]), self.chance.pick((0, 2, 3))
+        plain = (bytes([self.chance.pick((0x01, 0x09)), self.chance.below(256)])
+                 + run_of(1 + self.chance.below(78), self.chance.below(256)))
+        inner = octets_of(self.bench.seal_aps(station.own, identifier, plain))
+        tunnel = octets_of(self.bench.add("write", self.chance.pick(("ack", "noack")), "tunnel",
+                                          address(station.own), inner))
+        if self.chance.below(2):
+            changed = flip(tunnel, self.chance.below(8 * 16))
+            self.bench.add("route", self.chance.pick(("none", "none", 0)), changed)
+        self.bench.add("route", "none", tunnel, expect=handed_on(inner, station.own))
+        given = opening.open_aps(station.board, 116, 0, inner)
+        sure(given == (OWN, identifier, plain), "a tunnelled frame opens to another", plain.hex())
+
     def keys_change(self):
         """Keys sent again, replaced or removed; senders forgotten."""
         choice, station = self.chance.below(7), self.chance.pick(self.stations[:8])
@@ -275,7 +293,8 @@ class Play:
         """So many rounds, most of them genuine frames."""
         actions = ([self.genuine_network] * 10 + [self.genuine_aps] * 9 + [self.replay] * 4
                    + [self.altered] * 5 + [self.odd] * 2 + [self.sealing] * 4
-                   + [self.keys_change] * 2 + [self.looks] + [self.short_lend])
+                   + [self.tunnelling] + [self.keys_change] * 2 + [self.looks]
+                   + [self.short_lend])
         for _ in range(rounds):
             self.chance.pick(actions)()
         self.bench.add("state")

@@ -1,9 +1,10 @@
 """Puts the script of `bench` together, and checks that it shows what it must.
 
-Document 01, the table of refusals and their orders: which line can be refused with which number.
+Document 01, the table of refusals and their orders: which line can be refused with which number;
+document 02 (i) and the bench language for `route`.
 """
 
-from ..lines import sure
+from ..lines import refused, sure
 from ..model.commands import KINDS
 from .aps import add_aps
 from .commands import add_commands
@@ -12,8 +13,9 @@ from .line_forms import add_bad_lines, add_desk, add_fine, add_last, add_without
 from .network import add_network
 from .play import add_play
 from .tools import Bench
+from .tunnels import add_tunnels
 
-REFUSALS = {  # every number that a line can be refused with, by document 01
+REFUSALS = {  # every number that a line can be refused with
     "board": {14},
     "lend": set(),
     "network": {1, 14},
@@ -27,6 +29,7 @@ REFUSALS = {  # every number that a line can be refused with, by document 01
     "sealaps": {1, 2, 3, 4, 6, 7, 14},
     "read": {2, 3, 4, 11, 12, 14},
     "tlv": set(),
+    "route": {2, 3, 4, 11, 12, 14},
     "write": {1, 2, 11},
     "hash": set(),       # 257 octets are bad before they are too long
     "keyedhash": {2},
@@ -34,7 +37,7 @@ REFUSALS = {  # every number that a line can be refused with, by document 01
     "heard": set(),
     "links": set(),
 }
-LEAST_LINES, MOST_LINES = 5000, 8000
+LEAST_LINES, MOST_LINES = 6000, 9000
 
 
 def outcomes(bench):
@@ -60,7 +63,7 @@ def wanted():
 
 
 def check_outcomes(bench):
-    """Every outcome that document 01 allows is met, and none that it doesn't."""
+    """Every outcome that the papers allow is met, and none that they don't."""
     found = {outcome for outcome in outcomes(bench) if outcome[0] in REFUSALS}
     sure(found == set(wanted()), "outcomes missed, or met and not allowed",
          sorted(map(str, found ^ set(wanted()))))
@@ -82,6 +85,24 @@ def check_commands(bench):
              "a command is not written", kind.word)
 
 
+def check_routing(bench):
+    """Where the reader refuses, the router gives the same answer; of what is read, it hands on
+    tunnels, and refuses every other command with 11."""
+    given = dict(bench.given)
+    shown = set()
+    for line, answer in given.items():
+        reading = given.get(line.replace(b"route", b"read", 1))
+        if not line.startswith(b"route\t") or reading is None:
+            continue
+        verdict, *fields = reading.split("\t")
+        if verdict == "ok":
+            shown.add((fields[0], "ok" if answer.startswith("ok\t") else answer))
+        else:
+            sure(answer == reading, "the router gives another answer than the reader", line)
+    wanted_answers = {(kind.word, "ok" if kind.word == "tunnel" else refused(11)) for kind in KINDS}
+    sure(shown == wanted_answers, "commands routed otherwise", sorted(shown ^ wanted_answers))
+
+
 def check_shares(bench):
     """At least a third of the frames open, also without those that are not secured."""
     opens = [answer for line, answer in bench.given
@@ -98,8 +119,8 @@ def make_script():
     """The whole script."""
     bench = Bench()
     for add in (add_without_board, add_desk, add_bad_lines, add_fine, add_keys, add_network,
-                add_aps, add_commands, add_play, add_last):
+                add_aps, add_commands, add_tunnels, add_play, add_last):
         add(bench)
-    for check in (check_outcomes, check_commands, check_shares):
+    for check in (check_outcomes, check_commands, check_routing, check_shares):
         check(bench)
     return bench

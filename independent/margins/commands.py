@@ -1,6 +1,6 @@
 """The script of `margins`: commands written, their parts, and the values of TLVs.
 
-Document 01, "The commands".
+Document 01, "The commands"; document 02 (i) for what stands inside of a Tunnel.
 """
 
 from ..bench.tools import put
@@ -15,6 +15,15 @@ FIRST, SECOND = bytes(range(0x90, 0x9D)), bytes(range(0xA0, 0xAC))
 RELAYED = bytes(range(0xB0, 0xB9))
 TLVS = b"\x1a\x0d" + FIRST + b"\x1b\x0c" + SECOND
 RELAY = b"\x00\x09" + RELAYED
+
+
+def inner_parts(inner):
+    """An inner frame and its parts: 2 octets, 13, the rest, 4."""
+    end = len(inner) - 4
+    return {"inner": inner, "header": inner[:2], "auxiliary": inner[2:15],
+            "payload": inner[15:end], "tag": inner[end:]}
+
+
 COMMANDS = {  # protections, octets from the identifier on, parts
     "transport1": ((2,), b"\x05\x01" + KEY + b"\x55" + DEVICE + TRUST, {"key": KEY}),
     "transport4": ((3,), b"\x05\x04" + KEY + DEVICE + TRUST + TLVS, {"key": KEY, "tlvs": TLVS}),
@@ -25,13 +34,14 @@ COMMANDS = {  # protections, octets from the identifier on, parts
     "request2": ((0,), b"\x08\x02" + DEVICE, {}),
     "request4": ((0,), b"\x08\x04", {}),
     "switchkey": (("none", 0), b"\x09\x55", {}),
-    "tunnel": (("none",), b"\x0e" + DEVICE + INNER, {"inner": INNER}),
+    "tunnel": (("none",), b"\x0e" + DEVICE + INNER, inner_parts(INNER)),
     "verify": (("none",), b"\x0f\x56" + DEVICE + HASH, {"digest": HASH}),
     "confirm": ((0,), b"\x10\x57\x58" + DEVICE, {}),
     "down": (("none", 0), b"\x11" + TLVS + RELAY, {"tlvs": TLVS + RELAY}),
     "up": (("none", 0), b"\x12" + RELAY + TLVS, {"tlvs": RELAY + TLVS}),
 }
-PARTS = ("key", "digest", "inner", "tlvs")
+INNER_PARTS = ("header", "auxiliary", "payload", "tag")
+PARTS = ("key", "digest", "inner", "tlvs", *INNER_PARTS)
 FRONT = b"\x41\x3e"
 
 
@@ -48,6 +58,9 @@ def add_writing(script):
     script.group("tunnel: inner frames of 20 to 97 octets, without acknowledgement")
     front = b"\x0e" + DEVICE
     script.everywhere("tunnel", DEVICE_FIELD, INNER, gives=done(0x01, front + INNER))
+    for control, security in ((0x29, 0x20), (0x21, 0x30), (0x29, 0x38), (0x21, 0xE7)):
+        inner = put(put(INNER, 0, control), 2, security)
+        script.once("tunnel", DEVICE_FIELD, inner, gives=done(0x01, front + inner))
     for room, length in ((115, 95), (116, 96), (108, 97), (256, 97)):
         inner = INNER + run_of(length - 20)
         script.ask(room, "tunnel", DEVICE_FIELD, inner, gives=done(0x01, front + inner))
@@ -58,7 +71,23 @@ def add_writing(script):
     script.mostly("tunnel", DEVICE_FIELD, INNER + run_of(78), gives=2)
     for length in (99, 512):
         script.once("tunnel", DEVICE_FIELD, INNER + run_of(length - 20), gives=2)
+    add_wrong_insides(script)
     add_down(script, done)
+
+
+def add_wrong_insides(script):
+    """Tunnels around octets that may not stand inside."""
+    script.group("tunnel, 11: a control inside but 0x21 and 0x29; identifier 1; no extended nonce; "
+                 "before 2")
+    script.mostly("tunnel", DEVICE_FIELD, put(INNER, 0, 0x61), gives=11)
+    for control in (0x01, 0x20, 0x22, 0x23, 0x25, 0x2D, 0x31, 0xA1, 0x69):
+        script.once("tunnel", DEVICE_FIELD, put(INNER, 0, control), gives=11)
+    for security in (0x28, 0x2D, 0x00, 0x10, 0x18, 0xC0):
+        script.once("tunnel", DEVICE_FIELD, put(INNER, 2, security), gives=11)
+    for inner in (put(INNER, 0, 0x61), put(INNER, 2, 0x28)):
+        script.once("tunnel", DEVICE_FIELD, inner + run_of(77), gives=11)
+        script.once("tunnel", DEVICE_FIELD, inner + run_of(78), gives=11)
+        script.once("tunnel", DEVICE_FIELD, inner + run_of(492), gives=11)
 
 
 def add_down(script, done):
@@ -108,7 +137,33 @@ def add_parts(script):
             ("inner", "none", b"\x0e" + DEVICE + INNER + run_of(77), INNER + run_of(77))):
         script.add(part, under, FRONT + body, expect=ok(octets))
     script.add("digest", "none", b"\x09\x3e" + COMMANDS["verify"][1], expect=ok(HASH))
+    add_inner_parts(script)
     add_refused_parts(script)
+
+
+def add_inner_parts(script):
+    """Parts of inner frames of several lengths, of ones that may not stand there, and of none."""
+    front = FRONT + b"\x0e" + DEVICE
+    script.group("parts of a tunnel's inner frame: 20 to 97 octets; other controls")
+    for length in (21, 36, 97):
+        parts = inner_parts(INNER + run_of(length - 20))
+        for part, octets in parts.items():
+            script.add(part, "none", front + parts["inner"], expect=ok(octets))
+    for control, security in ((0x29, 0x20), (0x21, 0x3D), (0x29, 0xF0)):
+        parts = inner_parts(put(put(INNER, 0, control), 2, security))
+        for part in INNER_PARTS:
+            script.add(part, "none", front + parts["inner"], expect=ok(parts[part]))
+    script.group("parts where something else stands inside: 11")
+    for turn, inner in enumerate((INNER[:19], INNER[:3], b"", put(INNER, 0, 0x61),
+                                  put(INNER, 0, 0x01), put(INNER, 0, 0x25), put(INNER, 0, 0xA1),
+                                  put(INNER, 2, 0x28), put(INNER, 2, 0x10))):
+        for part in ("inner", INNER_PARTS[turn % 4], INNER_PARTS[(turn + 1) % 4]):
+            script.add(part, "none", front + inner, expect=ok(b""))
+    script.group("parts of an inner frame, asked of every other command")
+    for word, (protections, body, _) in COMMANDS.items():
+        if word != "tunnel":
+            for part in INNER_PARTS:
+                script.add(part, protections[-1], FRONT + body, expect=ok(b""))
 
 
 def add_refused_parts(script):
@@ -118,10 +173,15 @@ def add_refused_parts(script):
     for part, under, frame in (
             ("key", 1, frames["transport1"]), ("digest", 4, frames["verify"]),
             ("inner", 255, frames["tunnel"]), ("tlvs", 1, frames["down"]),
+            ("header", 1, frames["tunnel"]), ("auxiliary", 4, frames["tunnel"]),
+            ("payload", 255, frames["tunnel"]), ("tag", 1, frames["tunnel"]),
             ("inner", "none", frames["tunnel"] + run_of(78)), ("tlvs", 0, run_of(512)),
-            ("key", 2, b""), ("tlvs", 0, FRONT),
+            ("payload", "none", frames["tunnel"] + run_of(78)), ("tag", "none", run_of(512)),
+            ("key", 2, b""), ("tlvs", 0, FRONT), ("header", "none", b""), ("tag", "none", FRONT),
             ("key", 2, put(frames["transport1"], 0, 0x61)),
             ("inner", "none", put(frames["tunnel"], 0, 0x40)),
+            ("header", "none", put(frames["tunnel"], 0, 0x40)),
+            ("auxiliary", "none", put(frames["tunnel"], 0, 0x61)),
             ("key", 2, frames["transport1"] + b"\x00"), ("key", 3, put(frames["transport4"], 3, 5)),
             ("digest", "none", frames["verify"][:-1]), ("inner", "none", frames["tunnel"][:-1]),
             ("tlvs", 3, frames["transport3"] + b"\x1c"), ("tlvs", "none", FRONT + b"\x11" + TLVS)):

@@ -47,10 +47,14 @@ def add_bad(script):
                  ("sealaps", 116, device, 256, frame), ("remove", 116, device + "00"),
                  ("tunnel", 116, device, bytes(513)), ("down", "", frame), ("hash", bytes(513)),
                  ("keyedhash", "4g"), ("key", 256, frame), ("digest", "None", frame),
-                 ("inner", "01", frame), ("tlvs", "none", "413"), ("value", "none", "-1", frame)):
+                 ("inner", "01", frame), ("tlvs", "none", "413"), ("value", "none", "-1", frame),
+                 ("header", "none", bytes(513)), ("auxiliary", "00", frame),
+                 ("payload", "none", "413g"), ("tag", 256, frame)):
         script.add(*line, expect="bad")
     script.group("bad: a field less or more, other words, blanks")
     for line in ("open\t116", "remove\t116\t00000000000000a1\t", "hash", "value\tnone\t413e",
+                 "header\tnone", "auxiliary\t413e", "payload\tnone\t413e\t", "tag\tnone\t0\t413e",
+                 "route\tnone\t413e", "Tag\tnone\t413e",
                  "Open\t116\t413e", "up\t116\t", "hash\t00 ", "board"):
         script.raw(line, "bad")
 

@@ -5,7 +5,7 @@ name of an entry in docs/DECISIONS.md follows.
 """
 
 from ..lines import lines_of, sure
-from .commands import COMMANDS, FRONT, PARTS, add_parts, add_values, add_writing
+from .commands import COMMANDS, FRONT, INNER_PARTS, PARTS, add_parts, add_values, add_writing
 from .hashes import add_hashes
 from .opening import (add_open, add_open_aps, add_open_aps_forged, add_open_aps_refusals,
                       add_open_forged, add_open_refusals)
@@ -37,7 +37,7 @@ def pairs(files):
 
 
 def check_outcomes(given):
-    """Every outcome that document 01 allows on this board is met, and none that it doesn't."""
+    """Every outcome that the papers allow on this board is met, and none that they don't."""
     found = {(fields[0], answer[0], *(answer[1:2] if answer[0] == "refused" else ()))
              for fields, answer in given if fields[0] in REFUSALS}
     wanted = {(word, kind) for word in REFUSALS for kind in ("ok", "bad")}
@@ -83,6 +83,8 @@ def check_parts(given):
                 sure(wanted in met, "a part is not asked for", wanted)
         sure(any((part, good[0], frame, "") in met for part in PARTS if part not in parts),
              "no part that it lacks is asked of", frame)
+        sure(all(part in parts or (part, good[-1], frame, "") in met for part in INNER_PARTS),
+             "a part of an inner frame is not asked of", frame)
     for word, lengths in (("hash", {0, 13, 14, 17, 32, 255, 256, 257, 300, 512}),
                           ("keyedhash", {0, 239, 240, 241, 256, 257, 512})):
         answers = [(len(fields[1]) // 2, answer) for fields, answer in given

@@ -8,7 +8,7 @@ from dataclasses import dataclass
 from ..lines import Script, ok, refused
 
 ROOMS = (0, 1, 107, 108, 115, 116, 117, 200, 256)
-LEAST_LINES, MOST_LINES = 400, 700
+LEAST_LINES, MOST_LINES = 600, 1000
 
 # The board of every line.
 OWN, OUTGOING, APS_COUNTER = 2, 7, 255
@@ -23,7 +23,7 @@ LEAST = {"open": 116, "openaps": 116, "seal": 116, "sealaps": 116, "remove": 108
          "down": 108}
 STAYS = {"open": (), "openaps": (100, 0), "seal": (OUTGOING,), "sealaps": (OUTGOING,),
          "remove": (APS_COUNTER,), "tunnel": (APS_COUNTER,), "down": (APS_COUNTER,)}
-REFUSALS = {  # every number that a line can be refused with, by document 01 and on this board
+REFUSALS = {  # every number that a line can be refused with on this board
     "open": {1, 2, 3, 4, 5, 6, 7, 8, 9, 10},
     "openaps": {1, 2, 3, 4, 5, 6, 7, 8, 9},
     "seal": {1, 2, 3, 4},                # a slot is active (6) and the counter is 7 (7)
@@ -34,6 +34,7 @@ REFUSALS = {  # every number that a line can be refused with, by document 01 and
     "hash": {2},
     "keyedhash": {2},
     "key": set(), "digest": set(), "inner": set(), "tlvs": set(), "value": set(),
+    "header": set(), "auxiliary": set(), "payload": set(), "tag": set(),
 }
 
 
