@@ -14,72 +14,32 @@ Every command is written on one board, sealed there, handed over as octets, and 
 the other, which learns keys and addresses from what it read and from nowhere else. Frames between
 dutZC and gZED are opened and sealed anew by gZR. One line is printed for each verdict of the paper,
 under its number. "not played" is what document 01 doesn't build; "waits for request" is what
-document 02 asks for and the base doesn't have, so that the script stands in for it. Data frames of
-the device and test profiles are put together here: cluster data has no meaning to the board.
+document 02 asks for and the board doesn't have yet, so that the script stands in for it. Data
+frames of the device and test profiles are put together here: cluster data has no meaning to the
+board.
 
 The last line is `all steps as asked`, and the exit code 0; at the first difference it is 1.
 """
 
-import argparse
 import sys
 from pathlib import Path
 
 sys.path.insert(0, str(Path(__file__).resolve().parent.parent))
 
-from bench_pipe import BENCH_HELP, Bench, Differs, bench_words, flipped, in_words, least, text
+from bench_pipe import Differs, flipped, in_words, least
+from boards import (DEVICE_PROFILE, FORGED, LINK, LOAD, NETWORK_KEY, SHARED_KEY, STALE_ALTERED,
+                    STALE_GENUINE, TEST_PROFILE, TRANSPORT, UNSECURED_JOIN, announce,
+                    carry_to_joiner, command, counted, data, network_frame, run, same, sent_on,
+                    take_network_key)
 
-SHARED_KEY = b"ZigBeeAlliance09"
-NETWORK_KEY = bytes.fromhex("abcdef01234567890000000000000000")
 UNIQUE_KEYS = {"gZR": bytes.fromhex("7e11c0de00000000000000000000a001"),
                "gZED": bytes.fromhex("7e11c0de00000000000000000000a002")}
-LINK, TRANSPORT, LOAD = "0", "2", "3"  # key identifiers at the APS layer
 TRUST_CENTRE_LINK_KEY = 4              # a key type
-UNSECURED_JOIN = 1                     # a status of Update-Device
-AWAKE = 0xFFFD                         # the broadcast address that the paper names
-HEADER = 8                             # octets of the network header used here
-DEVICE_PROFILE, TEST_PROFILE = 0x0000, 0x7F01
-NOBODY = "0" * 16                      # the sender of an unsecured frame
-STALE_GENUINE = ("refused", 8, "stale", "genuine")
-STALE_ALTERED = ("refused", 8, "stale", "altered")
-FORGED = ("refused", 9, "forged")
+DEVICES = (("dutZC", "aaaaaaaaaaaaaaaa", 0x0000), ("gZR", "0000000100000000", 0x3C08),
+           ("gZED", "0000000000000001", 0x0BEE))
 
 
-class Board(Bench):
-    """A bench process that is one device, with what the paper says of it."""
-
-    def __init__(self, words, name, address, short, log):
-        super().__init__(words, name, log)
-        self.address, self.short = address, short
-        self.sequence = self.sealed = self.written = self.data = 0
-
-    def number(self):
-        """The next sequence number of the network layer, which the board leaves to its host."""
-        self.sequence = (self.sequence + 1) % 256
-        return self.sequence
-
-    def write(self, ack, *command):
-        """A command, as its plain APS frame."""
-        self.written += 1
-        return self.octets("write", ack, *command)
-
-    def seal(self, frame):
-        """A network frame, secured."""
-        self.sealed += 1
-        return self.octets("seal", frame)
-
-    def seal_aps(self, partner, identifier, frame):
-        """An APS frame for another board, secured."""
-        self.sealed += 1
-        return self.octets("sealaps", partner.address, identifier, frame)
-
-
-# ---- comparing ---------------------------------------------------------------------------------
-
-def same(what, found, *asked):
-    """The fields of an answer are those asked for."""
-    if list(found) != [text(field) for field in asked]:
-        raise Differs(f"{what}: {' '.join(found)}, and not {' '.join(map(text, asked))}")
-
+# ---- what is said ------------------------------------------------------------------------------
 
 def say(step, words):
     """The line of one verdict."""
@@ -91,82 +51,7 @@ def waits(request, words):
     print(f"         waits for request ({request}): {words}")
 
 
-# ---- frames from board to board ----------------------------------------------------------------
-
-def network_frame(source, destination, payload):
-    """A plain network data frame; a route is looked for only where it goes to one device."""
-    control = 0x0008 if destination == AWAKE else 0x0048
-    return (least(control, 2) + least(destination, 2) + least(source.short, 2) + bytes([30])
-            + bytes([source.number()]) + payload)
-
-
-def hand_over(here, there, frame):
-    """A network frame sealed by one board and opened by the next; the plain frame."""
-    opened = there.ok("open", here.seal(frame))
-    same("the network frame opened", opened, here.address, 1, frame)
-    return bytes.fromhex(opened[2])
-
-
-def carry(path, payload, destination=None):
-    """Octets along a path of boards, the radius one less at each; the octets that arrive."""
-    destination = path[-1].short if destination is None else destination
-    frame = network_frame(path[0], destination, payload)
-    for here, there in zip(path, path[1:]):
-        frame = hand_over(here, there, frame)
-        frame = frame[:6] + bytes([frame[6] - 1]) + frame[7:]
-    return frame[HEADER:]
-
-
-def carry_to_joiner(here, joiner, payload):
-    """Octets to a neighbour that has no network key yet: a network frame without security."""
-    frame = network_frame(here, joiner.short, payload)
-    opened = joiner.ok("open", frame)
-    same("the unsecured frame opened", opened, NOBODY, "none", frame)
-    return bytes.fromhex(opened[2])[HEADER:]
-
-
-def open_aps(sender, receiver, identifier, secured, plain):
-    """The plain frame of an APS frame, opened with the sender and protection it should have."""
-    opened = receiver.ok("openaps", sender.address, secured)
-    same("the APS frame opened", opened, NOBODY if identifier == "none" else sender.address,
-         identifier, plain)
-    return bytes.fromhex(opened[2])
-
-
-def command(path, identifier, *words):
-    """A command from the path's first board to its last; how that reads it, and the APS frame."""
-    sender, receiver = path[0], path[-1]
-    plain = sender.write("ack", *words)
-    frame = plain if identifier == "none" else sender.seal_aps(receiver, identifier, plain)
-    arrived = carry(path, frame)
-    read = receiver.ok("read", identifier, open_aps(sender, receiver, identifier, arrived, plain))
-    same("the command read", read, *words)
-    return read, arrived
-
-
-def data(path, identifier, profile, cluster, payload, destination=None):
-    """An APS data frame from the path's first board to its last; the payload that it opens."""
-    sender, receiver = path[0], path[-1]
-    sender.data += 1
-    endpoint = bytes([0 if profile == DEVICE_PROFILE else 1])
-    control = b"\x00" if destination is None else b"\x08"
-    plain = (control + endpoint + least(cluster, 2) + least(profile, 2) + endpoint
-             + bytes([sender.data]) + payload)
-    frame = plain if identifier == "none" else sender.seal_aps(receiver, identifier, plain)
-    return open_aps(sender, receiver, identifier, carry(path, frame, destination), plain)[8:]
-
-
 # ---- the steps ---------------------------------------------------------------------------------
-
-def take_network_key(joiner, centre, frame, plain):
-    """A joiner opens and reads the Transport-Key with the network key, and installs it."""
-    if NETWORK_KEY in frame:
-        raise Differs("the network key can be read in the frame")
-    read = joiner.ok("read", TRANSPORT, open_aps(centre, joiner, TRANSPORT, frame, plain))
-    same("the command read", read, "transport1", NETWORK_KEY, 0, joiner.address, centre.address)
-    joiner.ok("network", 0, read[2], read[1])
-    joiner.ok("switch", read[2])
-
 
 def join_centre(centre, router):
     """Steps 1 to 3: gZR joins dutZC."""
@@ -179,13 +64,10 @@ def join_centre(centre, router):
         " link key: as asked")
 
 
-def announce(step, path):
+def announced(step, path):
     """Steps 4 and 13: the device announcement, a broadcast."""
-    device = path[0]
-    octets = (bytes([device.data]) + least(device.short, 2) + least(int(device.address, 16), 8)
-              + b"\x8e")
-    data(path, "none", DEVICE_PROFILE, 0x0013, octets, AWAKE)
-    say(step, f"{device.name:5} -> 0xfffd device announcement, sealed at the network layer:"
+    announce(path)
+    say(step, f"{path[0].name:5} -> 0xfffd device announcement, sealed at the network layer:"
         " as asked")
 
 
@@ -246,13 +128,11 @@ def join_router(centre, router, device):
     say(11, "gZR   -> dutZC  Update-Device, status 1, under 0 of gZR's own link key: as asked")
     plain = centre.write("noack", "transport1", NETWORK_KEY, 0, device.address, centre.address)
     inner = centre.seal_aps(device, TRANSPORT, plain)
-    read, _ = command([centre, router], "none", "tunnel", device.address, inner)
+    _, tunnel = command([centre, router], "none", "tunnel", device.address, inner)
     say(12, "dutZC -> gZR    Tunnel, not APS secured, around a Transport-Key under 2: as asked")
-    waits("i", "the router's checks inside, and the inner frame sent on unchanged; here the script"
-          " hands on the part that was read")
-    frame = carry_to_joiner(router, device, bytes.fromhex(read[2]))
+    frame = carry_to_joiner(router, device, sent_on(router, tunnel, device, inner))
     take_network_key(device, centre, frame, plain)
-    say(12, "gZR   -> gZED   the inner frame, opened and read: as asked")
+    say(12, "gZR   -> gZED   the inner frame as dutZC sealed it, routed, opened and read: as asked")
 
 
 def buffer_test(path):
@@ -292,9 +172,7 @@ def replays(centre, router):
 def counters(boards):
     """Each board's counters count what it sealed and wrote."""
     for board in boards:
-        same(f"the state of {board.name}", board.ok("state"), board.sealed, board.written, 0)
-        print(f"after    {board.name} sealed {board.sealed} frames and wrote {board.written}"
-              " commands, as its counters say")
+        print(f"after    {counted(board)}")
 
 
 # ---- the whole ---------------------------------------------------------------------------------
@@ -315,13 +193,13 @@ def play(centre, router, device):
     set_up(centre, router, device)
     join_centre(centre, router)
     way = [router, centre]
-    announce(4, way)
+    announced(4, way)
     ask_revision(5, way)
     unique = ask_link_key((6, 7), way, UNIQUE_KEYS["gZR"])
     prove_link_key((8, 9), way, unique, device)
     join_router(centre, router, device)
     way = [device, router, centre]
-    announce(13, way)
+    announced(13, way)
     ask_revision(14, way)
     unique = ask_link_key((15, 16), way, UNIQUE_KEYS["gZED"])
     prove_link_key((17, 18), way, unique, router)
@@ -330,30 +208,5 @@ def play(centre, router, device):
     counters((centre, router, device))
 
 
-def main():
-    """Starts three benches and plays; the exit code."""
-    parser = argparse.ArgumentParser(description=__doc__,
-                                     formatter_class=argparse.RawDescriptionHelpFormatter)
-    parser.add_argument("--bench", metavar="COMMAND", help=BENCH_HELP)
-    parser.add_argument("-v", action="store_true",
-                        help="print every line sent to a board (<) and answered by it (>)")
-    given = parser.parse_args()
-    words = bench_words(given.bench)
-    boards = []
-    try:
-        for device in (("dutZC", "aaaaaaaaaaaaaaaa", 0x0000), ("gZR", "0000000100000000", 0x3C08),
-                       ("gZED", "0000000000000001", 0x0BEE)):
-            boards.append(Board(words, *device, given.v))
-        play(*boards)
-    except Differs as difference:
-        print(f"not as asked: {difference}")
-        return 1
-    finally:
-        for board in boards:
-            board.close()
-    print("all steps as asked")
-    return 0
-
-
 if __name__ == "__main__":
-    sys.exit(in_words(main))
+    sys.exit(in_words(lambda: run(__doc__, DEVICES, play, "all steps as asked")))
