@@ -11,7 +11,8 @@ frames. Each is put into an IEEE 802.15.4 data frame and a capture file, and tsh
 keys, deciphers it. Compared are, for each layer: the plain octets with those that were handed to
 `seal` or `sealaps`; the security control, the frame counter, the sender, the key identifier, the
 key sequence number, the tag and the key used; and what Wireshark shows of the header and of the
-command inside.
+command inside. The frame inside of a tunnel Wireshark deciphers in its place; it is also looked at
+as the router hands it on (`route`), in a network frame without security.
 
 The other way round, each frame is tried with each of its octets altered in one bit, at either
 layer: Wireshark must decipher none of those. Where a layer's payload is empty Wireshark has nothing
@@ -22,10 +23,7 @@ something differs, 2 where tshark is missing or fails.
 """
 
 import argparse
-import os
-import re
 import shutil
-import struct
 import subprocess
 import sys
 import tempfile
@@ -36,6 +34,7 @@ sys.path.insert(0, str(Path(__file__).resolve().parent.parent))
 
 from bench_pipe import (BENCH_HELP, Bench, Differs, bench_words, flipped, give_up, in_words, least,
                         text)
+from tshark import TROUBLE, Tshark, write_capture
 
 NETWORK_KEYS = (bytes.fromhex("abcdef01234567890000000000000000"),
                 bytes.fromhex("00112233445566778899aabbccddeeff"))
@@ -69,7 +68,7 @@ class Case:
     name: str
     frame: bytes
     layers: list
-    sequence: int                                # the network key's sequence number
+    sequence: list                               # the network key's sequence number, if secured
     shown: dict = field(default_factory=dict)
     altered: list = field(default_factory=list)  # frames, with how many layers may be deciphered
 
@@ -109,7 +108,7 @@ class Sealer:
         frame, layer = self.network(header, payload)
         frame, layer.level = flipped(frame, len(header), level), level
         name = f"{name}, slot {self.slot}, counter {layer.counter}"
-        case = Case(name, frame, [layer, *inside], NUMBERS[self.slot], {**PLAIN, **shown})
+        case = Case(name, frame, [layer, *inside], [NUMBERS[self.slot]], {**PLAIN, **shown})
         if payload:
             case.altered += [(flipped(frame, place), 0) for place in range(len(frame))]
         return case
@@ -233,7 +232,7 @@ def commands():
 
 
 def command_cases(sealer):
-    """Commands as `write` makes them, and a tunnel around one of them."""
+    """Commands as `write` makes them."""
     sealer.use(0)
     for identifier, words, shown in commands():
         plain = sealer.bench.octets("write", "ack", *words)
@@ -241,11 +240,52 @@ def command_cases(sealer):
             yield sealer.case(f"APS command {words[0]}, not secured by APS", header(), plain, shown)
         else:
             yield both(sealer, f"command {words[0]}", 0, identifier, plain, 2, shown)
-    plain = sealer.bench.octets("write", "noack", "transport1", SENT_KEY, 3, DEVICE, PARTNERS[0])
-    inner, layer = sealer.aps(0, TRANSPORT, plain[:2], plain[2:])
+
+
+# ---- tunnels -----------------------------------------------------------------------------------
+
+def in_tunnel(shown):
+    """What Wireshark should show of a tunnel: its own identifier and destination, then what it
+    shows of the command inside."""
+    at = "zbee_aps.cmd."
+    inside = [shown[at + "dst"]] if at + "dst" in shown else []
+    return {**shown, at + "id": [14, shown[at + "id"]], at + "dst": [DEVICE, *inside]}
+
+
+def around(sealer, name, inner, layer, shown):
+    """A tunnel, and the frame inside of it altered; the frame is deciphered in its place."""
     tunnel = sealer.bench.octets("write", "ack", "tunnel", DEVICE, inner)
-    yield sealer.case("APS command tunnel around a transport1, identifier 2", header(), tunnel,
-                      {"zbee_aps.cmd.id": [14, 5], "zbee_aps.cmd.dst": [DEVICE, DEVICE]}, [layer])
+    case = sealer.case(f"APS command tunnel around {name}", header(), tunnel, in_tunnel(shown),
+                       [layer])
+    start = len(tunnel) - len(inner)
+    case.altered += [(sealer.network(header(), flipped(tunnel, start + place))[0], 1)
+                     for place in range(len(inner))]
+    return case, tunnel
+
+
+def sent_on(sealer, name, tunnel, layer, shown):
+    """The frame that the router hands on, in a network frame without security: to a joiner that
+    has no network key."""
+    handed_on = bytes.fromhex(sealer.bench.ok("route", "none", tunnel)[1])
+    front = header(number=7)
+    case = Case(f"APS command {name}, sent on by the router", front + handed_on, [layer], [],
+                {**PLAIN, **shown})
+    case.altered += [(front + flipped(handed_on, place), 0) for place in range(len(handed_on))]
+    return case
+
+
+def tunnel_cases(sealer):
+    """Tunnels around every command that goes secured, of delivery 0 and 2 by turns, and what the
+    router sends on of them."""
+    secured = [case for case in commands() if case[0] is not NONE]
+    for turn, (identifier, words, shown) in enumerate(secured):
+        sealer.use(turn % 2)
+        plain = flipped(sealer.bench.octets("write", "noack", *words), 0, turn % 2 << 3)
+        inner, layer = sealer.aps(turn // 2 % 2, identifier, plain[:2], plain[2:])
+        name = f"{words[0]}, identifier {identifier}, delivery {turn % 2 * 2}"
+        case, tunnel = around(sealer, name, inner, layer, shown)
+        yield case
+        yield sent_on(sealer, name, tunnel, layer, shown)
 
 
 # ---- counters, levels --------------------------------------------------------------------------
@@ -275,84 +315,7 @@ def all_cases(bench):
     """Every case."""
     sealer = Sealer(bench, "0000000100000000", 0)
     return [*network_cases(sealer), *aps_cases(sealer), *command_cases(sealer),
-            *level_cases(sealer), *counter_cases(bench)]
-
-
-# ---- tshark ------------------------------------------------------------------------------------
-
-def number(shown):
-    """A number as tshark prints it."""
-    return {"True": 1, "False": 0}[shown] if shown in ("True", "False") else int(shown, 0)
-
-
-def digits(shown):
-    """Octets or an address as tshark prints them, without colons."""
-    return shown.replace(":", "")
-
-
-TROUBLE = ("zbee_sec.encrypted_payload", "zbee_sec.encrypted_payload_sliced",
-           "zbee_sec.extended_source_unknown")
-FIELDS = dict.fromkeys(TROUBLE, str)
-FIELDS.update({f"zbee.sec.{name}": number for name in ("field", "key_id", "counter", "key_seqno")})
-FIELDS.update({f"zbee.sec.{name}": digits for name in ("src64", "mic", "key")})
-FIELDS.update({f"zbee_nwk.{name}": number for name in (
-    "dst", "src", "radius", "seqno", "relay.count", "relay.index", "relay")})
-FIELDS.update({f"zbee_nwk.{name}": digits for name in ("dst64", "src64")})
-FIELDS.update({f"zbee_aps.cmd.{name}": number for name in (
-    "id", "key_type", "seqno", "init_flag", "addr", "update_status", "status")})
-FIELDS.update({f"zbee_aps.cmd.{name}": digits for name in (
-    "key", "dst", "src", "partner", "device", "key_hash")})
-
-
-def write_capture(path, frames):
-    """A capture of the frames, each in a MAC data frame with short addresses and no checksum."""
-    with open(path, "wb") as capture:
-        capture.write(struct.pack("<IHHiIII", 0xA1B2C3D4, 2, 4, 0, 0, 65535, 230))
-        for second, frame in enumerate(frames):
-            mac = (least(0x8841, 2) + bytes([second & 255]) + least(0x1AAA, 2) + least(0x0000, 2)
-                   + least(0x1234, 2) + frame)
-            capture.write(struct.pack("<IIII", second, 0, len(mac), len(mac)) + mac)
-
-
-def tshark(folder, capture, *words):
-    """What tshark prints of a capture, with the keys and nobody's own preferences."""
-    command = ["tshark", "-n", "-r", str(capture), "-o",
-               "zbee_nwk.seclevel:AES-128 Encryption, 32-bit Integrity Protection"]
-    for name, key in [(f"network {slot}", NETWORK_KEYS[slot]) for slot in (0, 1)] + [
-            (f"link {entry}", LINK_KEYS[entry]) for entry in (0, 1)]:
-        command += ["-o", f'uat:zigbee_pc_keys:"{key.hex()}","Normal","{name}"']
-    ran = subprocess.run([*command, *words], capture_output=True, text=True, check=False,
-                         env={**os.environ, "WIRESHARK_CONFIG_DIR": str(folder)})
-    if ran.returncode:
-        give_up(f"tshark failed: {ran.stderr.strip()}")
-    return ran.stdout
-
-
-def deciphered(folder, capture):
-    """For each frame of a capture the payloads that tshark deciphered, from the outside."""
-    frames = []
-    for packet in tshark(folder, capture, "-x").rstrip("\n").split("\n\n"):
-        sources, name = [], ""
-        for line in packet.lstrip("\n").split("\n"):
-            title = re.fullmatch(r"(.+) \(\d+ bytes?\):", line)
-            if title:
-                name = title[1].lower()
-                sources += [b""] if name == "decrypted zigbee payload" else []
-            elif name == "decrypted zigbee payload":
-                sources[-1] += bytes.fromhex(line[6:54])
-        frames.append(sources)
-    return frames
-
-
-def fields(folder, capture):
-    """For each frame of a capture what tshark reads of it, as lists by the field's name."""
-    words = [word for name in FIELDS for word in ("-e", name)]
-    frames = []
-    for line in tshark(folder, capture, "-T", "fields", "-E", "occurrence=a", *words).splitlines():
-        found = zip(FIELDS.items(), line.split("\t"))
-        frames.append({name: [read(one) for one in shown.split(",") if one]
-                       for (name, read), shown in found})
-    return frames
+            *tunnel_cases(sealer), *level_cases(sealer), *counter_cases(bench)]
 
 
 # ---- comparing ---------------------------------------------------------------------------------
@@ -367,7 +330,7 @@ def expected(case):
              "zbee.sec.key_id": [layer.identifier for layer in layers],
              "zbee.sec.mic": [layer.tag.hex() for layer in layers],
              "zbee.sec.key": [layer.key.hex() for layer in filled],
-             "zbee.sec.key_seqno": [case.sequence], **{name: [] for name in TROUBLE}}
+             "zbee.sec.key_seqno": case.sequence, **{name: [] for name in TROUBLE}}
     for name, value in case.shown.items():
         asked[name] = value if isinstance(value, list) else [value]
     return asked
@@ -408,7 +371,8 @@ def look(folder, cases, keep):
     write_capture(spoilt, altered)
     if keep:
         shutil.copy(sealed, keep)
-    seen = deciphered(folder, sealed), fields(folder, sealed), deciphered(folder, spoilt)
+    tshark = Tshark(folder, NETWORK_KEYS + LINK_KEYS)
+    seen = tshark.deciphered(sealed), tshark.fields(sealed), tshark.deciphered(spoilt)
     if [len(found) for found in seen] != [len(frames), len(frames), len(altered)]:
         raise Differs("tshark doesn't tell of as many frames as it was given")
     return seen
