@@ -6,9 +6,10 @@ use mathlib.Core.List.{List}
 use Prim.Native.Nat.{ℕ, _+_}
 use lib.Dec.{eqb, leb}
 use lib.ListN.{length}
-use Rattle.octets.specs.Choice.{if_then_else_}
+use Rattle.octets.specs.Choice.{if_then_else_, both}
 use Rattle.answers.specs.Numbers.{ProtectionTold, clear, under}
 use Rattle.settings.specs.Settings.{Settings, apsAux}
+use Rattle.frames.specs.Tunnelling.{mayTunnel}
 use Rattle.tlvs.specs.Looking.{fills, relays}
 use Rattle.commands.specs.declared.Kind.{Kind}
 use Rattle.commands.specs.declared.Kind.the-variants.{Transport1, Transport4, Transport2, Transport3, Update, Remove, Request2, Request4, Switch, Tunnel, Verify, Confirm, Down, Up}
@@ -51,12 +52,13 @@ ruleOf Up = row 1 NoSecret Relay (ClearOr 0)
 abbrev pub leastInner : Settings → ℕ
 leastInner z = 2 + apsAux + 1 + z .tag
 
--- what may follow: of a frame that is read, all that is left; of a command that is written, the part lent
+-- what may follow: of a frame that is read, all that is left; of a command that is written, the part lent. "Anything else inside is
+-- 11, after 01's size check" (document 02 (i))
 unfoldable pub fits : Settings → Rest → List ℕ → Bool
 fits z End s = eqb (length s) 0
 fits z Tlvs s = fills s
 fits z Relay s = relays s
-fits z Inner s = leb (leastInner z) (length s)
+fits z Inner s = both (leb (leastInner z) (length s)) (mayTunnel s)
 
 abbrev pub secretSize : Secret → ℕ
 secretSize NoSecret = 0

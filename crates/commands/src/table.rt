@@ -88,7 +88,7 @@ pub(crate) fn fits_rest(rest: Rest, s: &[u8]) -> bool
         Rest::End => s.len() == 0,
         Rest::Tlvs => tlvs::fills(s),
         Rest::Relay => tlvs::relays(s),
-        Rest::Inner => LEAST_INNER <= s.len(),
+        Rest::Inner => LEAST_INNER <= s.len() && frames::may_tunnel(s),
     }
 }
 

@@ -6,3 +6,4 @@ pub mod Found
 pub mod Marks
 pub mod Sent
 pub mod ReadAgain
+pub mod MayTunnel

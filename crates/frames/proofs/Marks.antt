@@ -44,7 +44,7 @@ ltb-same a m b n p q = go (ltb a m) (ltb b n) refl refl
 below : (c d n k : ℕ) → 0 < d → (c + d * (n * k)) / d % n ≡ c / d % n
 below c d n k h = ap (λ (x : ℕ). x % n) (add-mul-div-left c (n * k) h) ∙ add-mul-mod-self-left (c / d) n k
 
-above : (c v t : ℕ) → 0 < v → c / v % 2 ≡ 0 → (c + v) / (v * (2 * t)) ≡ c / (v * (2 * t))
+pub above : (c v t : ℕ) → 0 < v → c / v % 2 ≡ 0 → (c + v) / (v * (2 * t)) ≡ c / (v * (2 * t))
 above c v t h e =
     sym (parts (c + v)) ∙ ap (λ (x : ℕ). x / t) (ap (λ (x : ℕ). x / 2) (add-div-right c h) ∙ omega arith) ∙ parts c
   where
@@ -53,17 +53,17 @@ above c v t h e =
 
 -- ---- the control field
 
-bit-clear : (l : Layer) (c : ℕ) → securedBit l c ≡ false → c / mark l % 2 ≡ 0
+pub bit-clear : (l : Layer) (c : ℕ) → securedBit l c ≡ false → c / mark l % 2 ≡ 0
 unfolding networkSecured apsSecured
 bit-clear Network c e = omega (arith, eqb-false (c / 512 % 2) 1 e)
 bit-clear Aps c e = omega (arith, eqb-false (c / 32 % 2) 1 e)
 
-marked-bit : (l : Layer) (c : ℕ) → securedBit l c ≡ false → securedBit l (c + mark l) ≡ true
+pub marked-bit : (l : Layer) (c : ℕ) → securedBit l c ≡ false → securedBit l (c + mark l) ≡ true
 unfolding networkSecured apsSecured
 marked-bit Network c e = let z = bit-clear Network c e in eq-eqb ((c + 512) / 512 % 2) 1 (omega arith)
 marked-bit Aps c e = let z = bit-clear Aps c e in eq-eqb ((c + 32) / 32 % 2) 1 (omega arith)
 
-marked-form : (l : Layer) (c : ℕ) → securedBit l c ≡ false → formOf l (c + mark l) ≡ formOf l c
+pub marked-form : (l : Layer) (c : ℕ) → securedBit l c ≡ false → formOf l (c + mark l) ≡ formOf l c
 unfolding networkForm apsForm apsType delivery ackFormat
 marked-form Network c e =
     let z = bit-clear Network c e in
@@ -163,7 +163,7 @@ module _ (l : Layer) (f : List ℕ) (h : ℕ) (p : PlainFrame l f h) (o : Octets
       ∙ set-set (take h f) (bitPlace l) _ _
       ∙ set-getD (take h f) (bitPlace l) 0
 
-control-marked : (l : Layer) (f : List ℕ) (h : ℕ) (p : PlainFrame l f h) → Octets f → (r : List ℕ)
+pub control-marked : (l : Layer) (f : List ℕ) (h : ℕ) (p : PlainFrame l f h) → Octets f → (r : List ℕ)
     → controlOf l (securedHeader l f h ++ r) ≡ controlOf l f + mark l
 unfolding networkControl
 control-marked Network f h p o r =

@@ -17,6 +17,9 @@ delivery c = c / 4 % 4
 unfoldable pub ackFormat : ℕ → ℕ
 ackFormat c = c / 16 % 2
 
+unfoldable pub ackRequest : ℕ → ℕ
+ackRequest c = c / 64 % 2
+
 unfoldable pub apsForm : ℕ → Bool
 apsForm c =
     both (ltb c 128)

@@ -4,4 +4,5 @@ pub mod Aps
 pub mod Layers
 pub mod Reading
 pub mod Making
+pub mod Tunnelling
 pub mod Code

@@ -7,7 +7,7 @@ ghost use Rattle.frames.specs.Reading.{readHeader};
 ghost use Rattle.frames.specs.Code.{toldHeading};
 ghost use Rattle.frames.specs.Aps.{apsForm, apsSecured, apsHeader, apsKeyed};
 
-fn form(c: u8) -> bool
+pub(crate) fn form(c: u8) -> bool
     ensures { λ r. ⌜ r ≡ apsForm c ⌝ }
 {
     if 128 <= c {
@@ -34,7 +34,7 @@ fn form(c: u8) -> bool
     delivery == 0
 }
 
-fn is_secured(c: u8) -> bool
+pub(crate) fn is_secured(c: u8) -> bool
     ensures { λ r. ⌜ r ≡ apsSecured c ⌝ }
 {
     c / 32 % 2 == 1

@@ -5,6 +5,7 @@ mod making;
 mod network_header;
 mod reading;
 mod security;
+mod tunnelling;
 
 use answers::Refusal;
 pub use making::lay_authenticated;
@@ -17,6 +18,7 @@ pub use security::identifier;
 pub use security::lay_auxiliary;
 pub use security::nonce;
 pub use security::wire_control;
+pub use tunnelling::may_tunnel;
 
 pub enum Layer {
     Network,

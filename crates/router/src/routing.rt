@@ -1,0 +1,87 @@
+// A Tunnel's destination, and the inner frame and its four portions, each handed on as that part of
+// the caller's own frame.
+use crate::Portion;
+use crate::Route;
+use answers::Guard;
+use answers::Refusal;
+use commands::Command;
+use commands::Reading;
+ghost use mathlib.Core.Path.{_≡_};
+ghost use Prim.Native.Nat.{_≤_};
+ghost use Rattle.octets.specs.Parts.{seen};
+ghost use Rattle.settings.specs.Settings.{ours};
+ghost use Rattle.answers.specs.Numbers.{protectionOf};
+ghost use Rattle.commands.specs.Numbers.{toldCommand};
+ghost use Rattle.commands.specs.Parts.{cutAt};
+ghost use Rattle.commands.specs.Table.{leastInner};
+ghost use Rattle.router.specs.Routing.{toldRoute, tunnelTo, route as Routing·route, startOf, endOf, portionSpan};
+
+// The octets of the inner header: an inner frame is a command.
+const HEADER: usize = 2;
+
+// Another command than Tunnel goes nowhere.
+fn tunnel_to(c: Command) -> Route
+    ensures { λ r. ⌜ toldRoute r ≡ tunnelTo (toldCommand c) ⌝ }
+{
+    match c {
+        Command::TransportKey(_) => Route::Refused(Refusal::Command),
+        Command::UpdateDevice(_, _, _) => Route::Refused(Refusal::Command),
+        Command::RemoveDevice(_) => Route::Refused(Refusal::Command),
+        Command::RequestKey(_) => Route::Refused(Refusal::Command),
+        Command::SwitchKey(_) => Route::Refused(Refusal::Command),
+        Command::Tunnel(a) => Route::Onward(a),
+        Command::VerifyKey(_, _) => Route::Refused(Refusal::Command),
+        Command::ConfirmKey(_, _, _) => Route::Refused(Refusal::Command),
+        Command::RelayDownstream => Route::Refused(Refusal::Command),
+        Command::RelayUpstream => Route::Refused(Refusal::Command),
+    }
+}
+
+// Where the frame inside a plain APS frame that came under that protection goes.
+pub fn route(frame: &[u8], protection: Guard) -> Route
+    ensures { λ r. ⌜ toldRoute r ≡ Routing·route ours (now (frame .entry)) (protectionOf protection) ⌝ }
+{
+    match commands::read_command(frame, protection) {
+        Reading::Command(c) => tunnel_to(c),
+        Reading::Refused(r) => Route::Refused(r),
+    }
+}
+
+fn start_of(portion: Portion, n: usize) -> usize
+    requires { ⌜ leastInner ours ≤ n ⌝ }
+    ensures { λ r. ⌜ r ≡ startOf ours portion n ⌝ }
+{
+    match portion {
+        Portion::Whole => 0,
+        Portion::Header => 0,
+        Portion::Auxiliary => HEADER,
+        Portion::Payload => HEADER + settings::APS_AUX,
+        Portion::Tag => n - settings::TAG,
+    }
+}
+
+fn end_of(portion: Portion, n: usize) -> usize
+    requires { ⌜ leastInner ours ≤ n ⌝ }
+    ensures { λ r. ⌜ r ≡ endOf ours portion n ⌝ }
+{
+    match portion {
+        Portion::Whole => n,
+        Portion::Header => HEADER,
+        Portion::Auxiliary => HEADER + settings::APS_AUX,
+        Portion::Payload => n - settings::TAG,
+        Portion::Tag => n,
+    }
+}
+
+// The inner frame of that frame, or a portion of it; empty if the router refuses the frame.
+pub fn portion_of(frame: &[u8], protection: Guard, portion: Portion) -> &[u8]
+    ensures { λ r. ⌜ seen r ≡ cutAt (frame .entry) (portionSpan ours portion (now (frame .entry)) (protectionOf protection)) ⌝ }
+{
+    let inner = commands::inner_of(frame, protection);
+    if inner.len() == 0 {
+        return inner;
+    }
+    let start = start_of(portion, inner.len());
+    let end = end_of(portion, inner.len());
+    &inner[start..end]
+}
