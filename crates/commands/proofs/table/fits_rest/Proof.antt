@@ -1,5 +1,6 @@
--- Each arm is the definition's.
+-- Each arm is the definition's; of an inner frame the size comes first.
 use borrow.Author.Needs.{needs}
+use borrow.Author.Tests.{le-leb, lt-leb}
 use Rattle.commands.specs.Table.{fits}
 use Rattle.commands.proofs.table.fits_rest.Statement.{statement}
 use Rattle.commands.proofs.table.fits_rest.Tie as tie
@@ -22,6 +23,9 @@ relays-requires c κs = search needs
 enum-told-4 : tie.Need-enum-told-4
 enum-told-4 c = search needs
 
+may-tunnel-requires : tie.Need-may-tunnel-requires
+may-tunnel-requires c κs = search needs
+
 returns : tie.Need-returns
 unfolding fits
 returns c = simp (c .enum-told .given .1)
@@ -36,7 +40,13 @@ returns-3 c = simp (c .relays .ensures, c .before .enum-told3 .given .1)
 
 returns-4 : tie.Need-returns-4
 unfolding fits
-returns-4 c = simp (c .enum-told4 .given .1)
+returns-4 c =
+    let then1 : tie.Then1 = search in
+    simp (then1 .before .enum-told4 .given .1, le-leb _ _ (then1 .if1 .taken), ← c .may-tunnel .ensures)
+
+returns-5 : tie.Need-returns-5
+unfolding fits
+returns-5 c = simp (c .before .enum-told4 .given .1, lt-leb _ _ (c .if1 .left))
 
 pub fits-rest-spec : {M : Type 1} → statement M
 fits-rest-spec =
@@ -48,7 +58,9 @@ fits-rest-spec =
     enum-told-3
     relays-requires
     enum-told-4
+    may-tunnel-requires
     returns
     returns-2
     returns-3
-    returns-4)
+    returns-4
+    returns-5)
