@@ -127,8 +127,8 @@ enum Judged {
     Sound(Kind),
 }
 
-// A part of a frame.
-pub(crate) struct Span {
+// Where a part stands in a frame.
+pub struct Span {
     pub from: usize,
     pub count: usize,
 }

@@ -14,8 +14,8 @@ use Rattle.commands.specs.declared.Span.{Span}
 use Rattle.commands.specs.Numbers.{CommandTold, untyped, typed}
 use Rattle.commands.specs.Reading.{ReadTold, read, unread, judge, readCommand}
 use Rattle.commands.specs.Parts.{octetsAt, span, nowhere, innerSpan}
-use Rattle.router.specs.declared.Route.{Route}
-use Rattle.router.specs.declared.Route.the-variants.{Onward, Refused}
+use Rattle.router.specs.declared.Routed.{Routed}
+use Rattle.router.specs.declared.Routed.the-variants.{Onward, Refused}
 use Rattle.router.specs.declared.Portion.{Portion}
 use Rattle.router.specs.declared.Portion.the-variants.{Whole, Header, Auxiliary, Payload, Tag}
 
@@ -26,9 +26,9 @@ pub data RouteTold : Type 0 where
   onward : ℕ → RouteTold
   stopped : ℕ → RouteTold
 
-abbrev pub toldRoute : Route → RouteTold
-toldRoute (Onward a) = onward a
-toldRoute (Refused r) = stopped (numberOf r)
+abbrev pub toldRouted : Routed → RouteTold
+toldRouted (Onward a) = onward a
+toldRouted (Refused r) = stopped (numberOf r)
 
 -- 0E is Tunnel, whose one number is the destination
 unfoldable pub tunnelTo : CommandTold → RouteTold
@@ -36,12 +36,12 @@ tunnelTo (untyped i xs) = if eqb i 0x0e then onward (at xs 0) else stopped 11
 tunnelTo (typed i t xs) = stopped 11
 
 -- the reader's refusals, then 11
-unfoldable pub routed : ReadTold → RouteTold
-routed (unread n) = stopped n
-routed (read c) = tunnelTo c
+unfoldable pub routeOf : ReadTold → RouteTold
+routeOf (unread n) = stopped n
+routeOf (read c) = tunnelTo c
 
 unfoldable pub route : Settings → List ℕ → ProtectionTold → RouteTold
-route z f p = routed (readCommand z f p)
+route z f p = routeOf (readCommand z f p)
 
 -- ---- what is handed on
 

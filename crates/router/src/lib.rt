@@ -6,7 +6,7 @@ pub use routing::portion_of;
 pub use routing::route;
 
 // What the router answers: the destination of the inner frame, or a refusal.
-pub enum Route {
+pub enum Routed {
     Onward(u64),
     Refused(Refusal),
 }

@@ -1,7 +1,7 @@
 // A Tunnel's destination, and the inner frame and its four portions, each handed on as that part of
 // the caller's own frame.
 use crate::Portion;
-use crate::Route;
+use crate::Routed;
 use answers::Guard;
 use answers::Refusal;
 use commands::Command;
@@ -14,36 +14,36 @@ ghost use Rattle.answers.specs.Numbers.{protectionOf};
 ghost use Rattle.commands.specs.Numbers.{toldCommand};
 ghost use Rattle.commands.specs.Parts.{cutAt};
 ghost use Rattle.commands.specs.Table.{leastInner};
-ghost use Rattle.router.specs.Routing.{toldRoute, tunnelTo, route as Routing·route, startOf, endOf, portionSpan};
+ghost use Rattle.router.specs.Routing.{toldRouted, tunnelTo, route as Routing·route, startOf, endOf, portionSpan};
 
 // The octets of the inner header: an inner frame is a command.
 const HEADER: usize = 2;
 
 // Another command than Tunnel goes nowhere.
-fn tunnel_to(c: Command) -> Route
-    ensures { λ r. ⌜ toldRoute r ≡ tunnelTo (toldCommand c) ⌝ }
+fn tunnel_to(c: Command) -> Routed
+    ensures { λ r. ⌜ toldRouted r ≡ tunnelTo (toldCommand c) ⌝ }
 {
     match c {
-        Command::TransportKey(_) => Route::Refused(Refusal::Command),
-        Command::UpdateDevice(_, _, _) => Route::Refused(Refusal::Command),
-        Command::RemoveDevice(_) => Route::Refused(Refusal::Command),
-        Command::RequestKey(_) => Route::Refused(Refusal::Command),
-        Command::SwitchKey(_) => Route::Refused(Refusal::Command),
-        Command::Tunnel(a) => Route::Onward(a),
-        Command::VerifyKey(_, _) => Route::Refused(Refusal::Command),
-        Command::ConfirmKey(_, _, _) => Route::Refused(Refusal::Command),
-        Command::RelayDownstream => Route::Refused(Refusal::Command),
-        Command::RelayUpstream => Route::Refused(Refusal::Command),
+        Command::TransportKey(_) => Routed::Refused(Refusal::Command),
+        Command::UpdateDevice(_, _, _) => Routed::Refused(Refusal::Command),
+        Command::RemoveDevice(_) => Routed::Refused(Refusal::Command),
+        Command::RequestKey(_) => Routed::Refused(Refusal::Command),
+        Command::SwitchKey(_) => Routed::Refused(Refusal::Command),
+        Command::Tunnel(a) => Routed::Onward(a),
+        Command::VerifyKey(_, _) => Routed::Refused(Refusal::Command),
+        Command::ConfirmKey(_, _, _) => Routed::Refused(Refusal::Command),
+        Command::RelayDownstream => Routed::Refused(Refusal::Command),
+        Command::RelayUpstream => Routed::Refused(Refusal::Command),
     }
 }
 
 // Where the frame inside a plain APS frame that came under that protection goes.
-pub fn route(frame: &[u8], protection: Guard) -> Route
-    ensures { λ r. ⌜ toldRoute r ≡ Routing·route ours (now (frame .entry)) (protectionOf protection) ⌝ }
+pub fn route(frame: &[u8], protection: Guard) -> Routed
+    ensures { λ r. ⌜ toldRouted r ≡ Routing·route ours (now (frame .entry)) (protectionOf protection) ⌝ }
 {
     match commands::read_command(frame, protection) {
         Reading::Command(c) => tunnel_to(c),
-        Reading::Refused(r) => Route::Refused(r),
+        Reading::Refused(r) => Routed::Refused(r),
     }
 }
 

@@ -1,0 +1,154 @@
+-- The portions of an inner frame: each lies inside it, and the four joined are the inner frame.
+-- Assumes nothing.
+use mathlib.Core.Path.{_≡_, refl, sym, ap, ap₂, _∙_}
+use mathlib.Core.Logic.{_⊎_, inl, inr}
+use mathlib.Core.List.{List, [], _∷_, _++_}
+use Prim.Native.Nat.{ℕ, zero, suc, _+_, _-_, _≤_}
+use native.Mathlib.Omega.{arith}
+use lib.ListN.{length, take, drop, length-drop}
+use lib.Seq.{length-take-le, take-take, take-add, drop-drop}
+use borrow.Author.Tests.{eq-eqb, ne-eqb}
+use Rattle.settings.specs.Settings.{Settings, apsAux}
+use Rattle.answers.specs.Numbers.{ProtectionTold}
+use Rattle.commands.specs.declared.Span.{Span}
+use Rattle.commands.specs.Table.{leastInner}
+use Rattle.commands.specs.Reading.{judge}
+use Rattle.commands.specs.Parts.{octetsAt, span, nowhere, innerSpan}
+use Rattle.commands.proofs.Inner.{inner-least, inner-within}
+use Rattle.router.specs.declared.Portion.{Portion}
+use Rattle.router.specs.declared.Portion.the-variants.{Whole, Header, Auxiliary, Payload, Tag}
+use Rattle.router.specs.Routing.{startOf, endOf, portionIn, portionSpan, handedOn, joined}
+
+-- ---- parts of parts
+
+take-within : (m i n : ℕ) (l : List ℕ) → i + m ≤ n → take m (drop i (take n l)) ≡ take m (drop i l)
+take-within m zero n l h = take-take m n l (omega arith)
+take-within m (suc i) zero l h = absurd (omega arith)
+take-within m (suc i) (suc n) [] h = refl
+take-within m (suc i) (suc n) (x ∷ l) h = take-within m i n l (omega arith)
+
+pub part-within : (l : List ℕ) (a n i m : ℕ) → i + m ≤ n → take m (drop i (take n (drop a l))) ≡ take m (drop (a + i) l)
+part-within l a n i m h = take-within m i n (drop a l) h ∙ ap (take m) (drop-drop i a l)
+
+-- two parts, the second of which starts where the first one ends
+meet : (l : List ℕ) (a m n : ℕ) → take m (drop a l) ++ take n (drop (a + m) l) ≡ take (m + n) (drop a l)
+meet l a m n = ap (λ (s : List ℕ). take m (drop a l) ++ take n s) (sym (drop-drop m a l)) ∙ sym (take-add m n (drop a l))
+
+-- ---- where a portion starts and ends
+
+module _ (z : Settings) (n : ℕ) (h : leastInner z ≤ n) where
+  pub start-end : (w : Portion) → startOf z w n ≤ endOf z w n
+  start-end Whole = omega arith
+  start-end Header = omega arith
+  start-end Auxiliary = omega arith
+  start-end Payload = omega arith
+  start-end Tag = omega arith
+
+  pub end-within : (w : Portion) → endOf z w n ≤ n
+  end-within Whole = omega arith
+  end-within Header = omega arith
+  end-within Auxiliary = omega arith
+  end-within Payload = omega arith
+  end-within Tag = omega arith
+
+  -- header, auxiliary header, payload and tag of the n octets from place a on
+  four : (l : List ℕ) (a : ℕ)
+      → take 2 (drop (a + 0) l) ++ take 13 (drop (a + 2) l) ++ take (n - z .tag - 15) (drop (a + 15) l)
+      ++ take (n - (n - z .tag)) (drop (a + (n - z .tag)) l)
+      ≡ take n (drop a l)
+  four l a =
+      let b = n - z .tag - 15 in
+      let first : a + 0 ≡ a = omega arith in
+      let middle : a + (n - z .tag) ≡ a + (2 + 13 + b) = omega arith in
+      let last : n - (n - z .tag) ≡ z .tag = omega arith in
+      let whole : 2 + 13 + b + z .tag ≡ n = omega arith in
+      ap (λ (i : ℕ). take 2 (drop i l) ++ take 13 (drop (a + 2) l) ++ take b (drop (a + 15) l)
+      ++ take (n - (n - z .tag)) (drop (a + (n - z .tag)) l)) first
+      ∙ ap₂ (λ (s : List ℕ) (i : ℕ). s ++ take b (drop (a + 15) l) ++ take (n - (n - z .tag)) (drop i l)) (meet l a 2 13) middle
+      ∙ ap₂ (λ (s : List ℕ) (m : ℕ). s ++ take m (drop (a + (2 + 13 + b)) l)) (meet l a 15 b) last
+      ∙ meet l a (2 + 13 + b) (z .tag)
+      ∙ ap (λ (m : ℕ). take m (drop a l)) whole
+
+-- ---- the inner frame of a frame f that came under p
+
+module _ (z : Settings) (f : List ℕ) (p : ProtectionTold) where
+  abbrev q : Span
+  q = innerSpan (length f) (judge z f p)
+
+  pub inner-count : length (octetsAt f q) ≡ q .count
+  inner-count = length-take-le (q .count) (drop (q .from) f) (omega (arith, length-drop (q .from) f, inner-within z f p))
+
+  -- none is handed on: nowhere
+  pub none-on : (w : Portion) → q .count ≡ 0 → portionSpan z w f p ≡ q
+  unfolding portionSpan portionIn
+  none-on w e = go (inner-least z f p)
+    where
+      go : (q ≡ nowhere) ⊎ (leastInner z ≤ q .count) → portionIn z w q ≡ q
+      go (inl d) = simp (eq-eqb (q .count) 0 e) (sym d)
+      go (inr l) = absurd (omega arith)
+
+  -- one is
+  module _ (some : q .count ≡ 0 → ⊥) where
+    pub some-least : leastInner z ≤ q .count
+    some-least = go (inner-least z f p)
+      where
+        go : (q ≡ nowhere) ⊎ (leastInner z ≤ q .count) → leastInner z ≤ q .count
+        go (inl d) = absurd (some (ap (λ (x : Span). x .count) d))
+        go (inr l) = l
+
+    pub some-on : (w : Portion)
+        → portionSpan z w f p ≡ span (q .from + startOf z w (q .count)) (endOf z w (q .count) - startOf z w (q .count))
+    unfolding portionSpan portionIn
+    some-on w = simp (ne-eqb (q .count) 0 some)
+
+  -- ---- the four joined
+
+  pub whole-on : handedOn z Whole f p ≡ octetsAt f q
+  whole-on = go (inner-least z f p)
+    where
+      go : (q ≡ nowhere) ⊎ (leastInner z ≤ q .count) → handedOn z Whole f p ≡ octetsAt f q
+      go (inl d) = ap (octetsAt f) (none-on Whole (ap (λ (x : Span). x .count) d))
+      go (inr l) =
+          let some : (q .count ≡ 0 → ⊥) = λ e. omega arith in
+          let start : q .from + 0 ≡ q .from = omega arith in
+          let count : q .count - 0 ≡ q .count = omega arith in
+          ap (octetsAt f) (some-on some Whole) ∙ ap₂ (λ (i n : ℕ). take n (drop i f)) start count
+
+  pub four-joined : joined z f p ≡ handedOn z Whole f p
+  four-joined = go (inner-least z f p) ∙ sym whole-on
+    where
+      go : (q ≡ nowhere) ⊎ (leastInner z ≤ q .count) → joined z f p ≡ octetsAt f q
+      go (inl d) =
+          let e = ap (λ (x : Span). x .count) d in
+          let empty : octetsAt f q ≡ [] = ap (octetsAt f) d in
+          simp (none-on Header e, none-on Auxiliary e, none-on Payload e, none-on Tag e, empty)
+      go (inr l) =
+          let some : (q .count ≡ 0 → ⊥) = λ e. omega arith in
+          simp (some-on some Header, some-on some Auxiliary, some-on some Payload, some-on some Tag)
+          (four z (q .count) l f (q .from))
+
+  -- ---- a portion cut out of the inner frame m
+
+  module _ (m : List ℕ) (e : m ≡ octetsAt f q) where
+    pub same-count : length m ≡ q .count
+    same-count = ap length e ∙ inner-count
+
+    module _ (some : length m ≡ 0 → ⊥) where
+      pub long-enough : leastInner z ≤ length m
+      long-enough = omega (arith, same-count, some-least (λ d. some (same-count ∙ d)))
+
+      pub its-span : (w : Portion)
+          → portionSpan z w f p ≡ span (q .from + startOf z w (length m)) (endOf z w (length m) - startOf z w (length m))
+      its-span w =
+          some-on (λ d. some (same-count ∙ d)) w
+          ∙ ap (λ (n : ℕ). span (q .from + startOf z w n) (endOf z w n - startOf z w n)) (sym same-count)
+
+      pub its-octets : (w : Portion) (n i : ℕ) → i ≡ startOf z w (length m) → n ≡ endOf z w (length m) - i
+          → take n (drop i m) ≡ handedOn z w f p
+      its-octets w n i s t =
+          let h = start-end z (length m) long-enough w in
+          let k = end-within z (length m) long-enough w in
+          ap (λ (l : List ℕ). take n (drop i l)) e
+          ∙ part-within f (q .from) (q .count) i n (omega (arith, same-count))
+          ∙ ap₂ (λ (x y : ℕ). take x (drop (q .from + y) f)) (t ∙ ap (λ (y : ℕ). endOf z w (length m) - y) s) s
+          ∙ ap (octetsAt f) (sym (its-span w))
