@@ -249,7 +249,7 @@ module _ (f : List ℕ) where
 -- ---- all together
 
 module _ (z : Settings) (b : Board) (ack : Bool) (c : Command) (k r o : List ℕ) (f : List ℕ) where
-  writes-frame : whole z (ruleOf (kindOf c)) k r ≡ true → frameOf b ack c k r ≡ f → length f ≤ longestAps → longestAps ≤ length o
+  pub writes-frame : whole z (ruleOf (kindOf c)) k r ≡ true → frameOf b ack c k r ≡ f → length f ≤ longestAps → longestAps ≤ length o
       → writeCommand z b ack c k r o ≡ framed (written (length f)) (apsRaised b) (onto f o)
   unfolding writeCommand
   writes-frame w e l h = simp (le-ltb (length o) longestAps h, w, e, le-ltb longestAps (length f) l)
