@@ -1,17 +1,21 @@
--- What sealing makes of a plain command that asks for no acknowledgement may stand inside a Tunnel.
+-- The two controls that a frame inside a Tunnel may have. What sealing makes of a plain command that asks for no acknowledgement may
+-- stand there.
 -- Assumes nothing.
-use mathlib.Core.Path.{_≡_, ap, ap₂, _∙_}
-use mathlib.Core.Bool.{Bool, true}
+use mathlib.Core.Path.{_≡_, refl, sym, ap, ap₂, _∙_}
+use mathlib.Core.Bool.{Bool, true, false}
 use mathlib.Core.List.{List, _++_}
 use Prim.Native.Nat.{ℕ, _+_, _%_, _/_, _<_}
 use native.Mathlib.Nat.{add-mul-mod-self-left}
 use native.Mathlib.Omega.{arith}
+use lib.Dec.{eqb}
+use lib.ListN.{getD}
 use lib.Seq.{getD-at}
-use borrow.Author.Tests.{eq-eqb, ne-eqb}
-use Rattle.octets.specs.Choice.{both}
-use Rattle.octets.specs.Lists.{at, Octets}
+use borrow.Author.Tests.{ne-eqb}
+use Rattle.octets.proofs.Tabs.{getD-tab}
+use Rattle.octets.specs.Choice.{if_then_else_, both}
+use Rattle.octets.specs.Lists.{at, tab, Octets}
 use Rattle.frames.specs.declared.Layer.the-variants.{Aps}
-use Rattle.frames.specs.Aps.{apsType, ackRequest, apsHeader, apsKeyed}
+use Rattle.frames.specs.Aps.{apsType, delivery, ackFormat, ackRequest, apsForm, apsSecured, apsHeader, apsKeyed}
 use Rattle.frames.specs.Security.{wireControl, auxiliary}
 use Rattle.frames.specs.Making.{securedHeader}
 use Rattle.frames.specs.Reading.{headed, readingPlain}
@@ -19,6 +23,21 @@ use Rattle.frames.specs.Tunnelling.{innerControl, innerSecurity, mayTunn
 use Rattle.frames.proofs.Controls.{wire-identifier, wire-extended}
 use Rattle.frames.proofs.Found.{PlainFrame, plain-to-seal}
 use Rattle.frames.proofs.Marks.{above, bit-clear, marked-bit, marked-form, control-marked, secured-length}
+
+-- ---- the control: of all octets, 0x21 and 0x29
+
+abbrev either : ℕ → Bool
+either c = if eqb c 0x21 then true else eqb c 0x29
+
+tried : tab 256 innerControl ≡ tab 256 either
+unfolding innerControl apsForm apsType delivery ackFormat apsSecured ackRequest
+tried = refl
+
+pub inner-controls : (c : ℕ) → c < 256 → innerControl c ≡ either c
+inner-controls c h =
+    sym (getD-tab 256 innerControl c false h) ∙ ap (λ (l : List Bool). getD l c false) tried ∙ getD-tab 256 either c false h
+
+-- ---- as sealed
 
 -- the security control that sealing sends
 wire-inner : (k : ℕ) → k < 4 → (k ≡ 1 → ⊥) → innerSecurity (wireControl k) ≡ true
