@@ -41,6 +41,7 @@ pub enum Alone {
     Tlv(Guard, u8),
     Hash,
     KeyedHash,
+    Route(Guard),
 }
 
 // A request, its key or hash, and its other octets; none where it has none.
@@ -126,7 +127,8 @@ fn alone_of(w: usize, v: [u64; 8]) -> Alone {
         3 => Alone::Read(guard_of(v[1])),
         4 => Alone::Tlv(guard_of(v[1]), (v[2] % 256) as u8),
         5 => Alone::Hash,
-        _ => Alone::KeyedHash,
+        6 => Alone::KeyedHash,
+        _ => Alone::Route(guard_of(v[1])),
     }
 }
 

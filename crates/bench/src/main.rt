@@ -15,6 +15,7 @@ mod keys;
 mod making;
 mod opening;
 mod requests;
+mod routing;
 mod sealing;
 mod show;
 

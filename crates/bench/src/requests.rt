@@ -19,6 +19,7 @@ use crate::hashes;
 use crate::keys;
 use crate::making;
 use crate::opening;
+use crate::routing;
 use crate::sealing;
 use crate::show;
 use board::Board;
@@ -76,5 +77,6 @@ fn without_board(r: Alone, key: Frame, f: Frame, desk: Desk) -> Reply {
         Alone::Tlv(guard, tag) => reply_same(command_lines::tlv(guard, tag, f), desk),
         Alone::Hash => reply_same(hashes::hash(f), desk),
         Alone::KeyedHash => reply_same(hashes::keyed_hash(key, f), desk),
+        Alone::Route(guard) => reply_same(routing::route(guard, f), desk),
     }
 }

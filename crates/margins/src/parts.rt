@@ -4,6 +4,7 @@ use crate::read::Frame;
 use answers::Guard;
 use lines::Answer;
 use lines::hex;
+use router::Portion;
 
 pub(crate) fn key(t: u64, f: Frame) -> Answer {
     let o = f.octets;
@@ -31,6 +32,13 @@ pub(crate) fn tlvs(t: u64, f: Frame) -> Answer {
 pub(crate) fn value(t: u64, tag: u64, f: Frame) -> Answer {
     let o = f.octets;
     let found = commands::value_of(text::front(&o, f.n), guard_of(t), (tag % 256) as u8);
+    hex(done(), found)
+}
+
+// One of the four that a Tunnel's inner frame is joined of.
+pub(crate) fn portion(t: u64, f: Frame, p: Portion) -> Answer {
+    let o = f.octets;
+    let found = router::portion_of(text::front(&o, f.n), guard_of(t), p);
     hex(done(), found)
 }
 

@@ -9,16 +9,19 @@ use crate::sealing;
 use crate::writing::write;
 use commands::Command;
 use lines::Answer;
+use router::Portion;
 
 // A number beyond the words for a line that has none of them; it has no field at all, a form that no
 // line has.
 pub(crate) fn answer_to(long: bool, line: &[u8]) -> Answer {
     let w = text::which(
-        b"open\topenaps\tseal\tsealaps\tremove\ttunnel\tdown\thash\tkeyedhash\tkey\tdigest\tinner\ttlvs\tvalue",
+        b"open\topenaps\tseal\tsealaps\tremove\ttunnel\tdown\thash\tkeyedhash\tkey\tdigest\tinner\ttlvs\t\
+        value\theader\tauxiliary\tpayload\ttag",
         text::field(line, 0),
     );
     let form = text::field(
-        b".SG\t.SAG\t.SG\t.SABG\t.SA\t.SAG\t.SG\t.G\t.G\t.TG\t.TG\t.TG\t.TG\t.TBG",
+        b".SG\t.SAG\t.SG\t.SABG\t.SA\t.SAG\t.SG\t.G\t.G\t.TG\t.TG\t.TG\t.TG\t\
+        .TBG\t.TG\t.TG\t.TG\t.TG",
         w,
     );
     let x = fields_of(line, form);
@@ -45,6 +48,10 @@ fn answer_well(w: usize, x: Fields) -> Answer {
         10 => parts::digest(v[1], f),
         11 => parts::inner(v[1], f),
         12 => parts::tlvs(v[1], f),
-        _ => parts::value(v[1], v[2], f),
+        13 => parts::value(v[1], v[2], f),
+        14 => parts::portion(v[1], f, Portion::Header),
+        15 => parts::portion(v[1], f, Portion::Auxiliary),
+        16 => parts::portion(v[1], f, Portion::Payload),
+        _ => parts::portion(v[1], f, Portion::Tag),
     }
 }
