@@ -13,7 +13,7 @@ use Rattle.octets.proofs.Choices.{choose}
 use Rattle.octets.specs.Addresses.{noAddress}
 use Rattle.octets.specs.Choice.{if_then_else_, both}
 use Rattle.octets.specs.Lists.{Octets}
-use Rattle.history.specs.Calls.{Call, install, switch, addLink, removeLink, forget, opening, sealing, looking, writing, Reply, refuses, handedOut, exchanges, toSeal, SealsOctets}
+use Rattle.history.specs.Calls.{Call, install, switch, addLink, removeLink, forget, opening, sealing, looking, writing, routing, Reply, refuses, handedOut, exchanges, toSeal, SealsOctets}
 use Rattle.history.specs.Events.{Holder, slot, link, Installation, key, Event, keyIn, sameKey, sentIn}
 use Rattle.history.specs.Story.{installing, hearing, telling, eventsOf, story}
 use Rattle.history.specs.Statement.{readings, lower, rising, First}
@@ -152,6 +152,7 @@ module _ (z : Settings) (own : ℕ) (wide : own < 2 ^ 64) (someone : noAddress o
   sends-step (looking Network f g) o = w
   sends-step (looking Aps f g) o = w
   sends-step (writing a c k r p) o = silent (writing a c k r p) (sends-write a c k r p) refl
+  sends-step (routing f p) o = silent (routing f p) w refl
 
 -- ---- after any calls
 

@@ -1,7 +1,8 @@
 -- What follows from the statements, of any board that meets them: no two sealed frames carry the same counter; a stale frame is
 -- refused, whatever the board would tell of it; so is a replay; a refused frame leaves what may be opened as it was; a board that
 -- repeats its reply does not meet the second; and neither does one that installed a key and refuses a new frame sealed under it.
--- Of ours: after a refused frame every later call is answered as if it had not come.
+-- Of any board at all: wrapping a frame and sending it on seal nothing. Of ours: after a refused frame every later call is answered
+-- as if it had not come.
 -- Assumes nothing.
 use mathlib.Core.Path.{_≡_, refl, sym, subst, ap, _∙_}
 use mathlib.Core.Bool.{Bool, true, false, not}
@@ -15,7 +16,7 @@ use Rattle.octets.specs.Keys.{Key}
 use Rattle.settings.specs.Settings.{Settings, longest, top}
 use Rattle.octets.specs.Choice.{if_then_else_, both}
 use Rattle.octets.specs.Lists.{Octets}
-use Rattle.history.specs.Calls.{Call, install, opening, Reply, gave, refuses, Exchange, Replies, exchanges, SealsOctets}
+use Rattle.history.specs.Calls.{Call, install, opening, writing, routing, Reply, gave, refuses, Exchange, Replies, exchanges, SealsOctets}
 use Rattle.history.specs.Events.{Holder, slot, link, nowhere, Installation, none, key, HeardFrame, Event, keyed, forgot, heard, sent, same, keyIn, slotFor, holderFor, without, heardIn, sentIn}
 use Rattle.history.specs.Story.{eventsOf, story}
 use Rattle.history.specs.Statement.{readings, lower, rising, First, longestAt, keyAt, aboveAll, room, passesUnder, passesRead, passes, Rightly, Second}
@@ -34,6 +35,7 @@ use Rattle.board.specs.Places.{firstAt}
 use Rattle.seals.specs.Sealing.{Fair, genuine, sentOctets, sealedFrame}
 use Rattle.seals.proofs.Again.{ToSeal, announcing, read-again, message-again, length-again, octets-again}
 use Rattle.octets.proofs.Choices.{both-parts}
+use Rattle.commands.specs.declared.Command.{Command}
 use Rattle.network.specs.Opening as network
 use Rattle.board.specs.Sending.{Framed}
 
@@ -95,6 +97,20 @@ pub no-two-same : (z : Settings) (board : Replies) → First z board → (cs : L
     → let rs = readings z (sentIn (story z (exchanges board cs))) in
     (i j : ℕ) → i < j → j < length rs → Apart (getD rs i (plain 0)) (getD rs j (plain 0))
 no-two-same z board meets cs o i j h k = rising-apart (readings z (sentIn (story z (exchanges board cs)))) (meets cs o) i j h k
+
+-- ---- of any board, whatever it replies: "wrapping it or sending it on seals nothing" (02 (i))
+
+adds-nothing : (t : Bool) (h : List Event) → (if t then [] else []) ++ h ≡ h
+adds-nothing true h = refl
+adds-nothing false h = refl
+
+pub wraps-nothing : (z : Settings) (a : Bool) (c : Command) (k r o : List ℕ) (y : Reply) (xs : List Exchange)
+    → story z (record { call = writing a c k r o; reply = y } ∷ xs) ≡ story z xs
+wraps-nothing z a c k r o y xs = adds-nothing (refuses y) (story z xs)
+
+pub routes-nothing : (z : Settings) (f : List ℕ) (p : ProtectionTold) (y : Reply) (xs : List Exchange)
+    → story z (record { call = routing f p; reply = y } ∷ xs) ≡ story z xs
+routes-nothing z f p y xs = adds-nothing (refuses y) (story z xs)
 
 -- ---- calls after calls
 

@@ -13,7 +13,7 @@ use Rattle.settings.specs.Settings.{Settings}
 use Rattle.octets.proofs.Choices.{choose}
 use Rattle.octets.specs.Addresses.{noAddress}
 use Rattle.octets.specs.Choice.{if_then_else_, both}
-use Rattle.history.specs.Calls.{Call, install, switch, addLink, removeLink, forget, opening, sealing, looking, writing}
+use Rattle.history.specs.Calls.{Call, install, switch, addLink, removeLink, forget, opening, sealing, looking, writing, routing, sentOn}
 use Rattle.history.specs.Calls.{handedOut, exchanges}
 use Rattle.history.specs.Events.{Event, Installation, HeardFrame, slot, link, keyed, key, none, keyIn, sameKey, slotFor, without, heardIn}
 use Rattle.history.specs.Story.{installing, hearing, eventsOf, story}
@@ -25,7 +25,7 @@ use Rattle.history.proofs.Senders.{row-there, hear-rows, lose-rows, cle
 use Rattle.history.proofs.Slots.{Slots, slots-fresh, keeps-same, slot-told, install-slot}
 use Rattle.history.proofs.Links.{Links, Tells, pairsAt, links-fresh, links-ext, pair-mine, pair-other, pair-free, Mine, mine, free, entry-put, entry-gone}
 use Rattle.history.proofs.Ways.{network-seals, aps-seals, writes}
-use Rattle.answers.specs.Numbers.{done}
+use Rattle.answers.specs.Numbers.{done, ProtectionTold}
 use Rattle.frames.specs.declared.Layer.{Layer}
 use Rattle.frames.specs.declared.Layer.the-variants.{Network, Aps}
 use Rattle.frames.specs.declared.Secured.{Secured}
@@ -44,6 +44,8 @@ use Rattle.network.specs.Opening.{floorAt, floorOf}
 use Rattle.aps.specs.Opening.{withFloor}
 use Rattle.commands.specs.declared.Command.{Command}
 use Rattle.commands.specs.Writing.{apsRaised}
+use Rattle.router.specs.declared.Portion.the-variants.{Whole}
+use Rattle.router.specs.Routing.{RouteTold, onward, stopped, route, handedOn}
 use Rattle.board.specs.Requests as requests
 use Rattle.network.specs.Opening.{Lent, Opening}
 use Rattle.network.proofs.Ways as network
@@ -374,6 +376,14 @@ module _ (z : Settings) (x : Held) (h : List Event) (w : Stands z x h) where
       writes z b a c k r o (λ (y : Framed). Ends (writing a c k r o) (byFrame x y)) (λ n. w)
       (λ n p. record { slots = w .slots; rows = w .rows; links = w .links })
 
+  -- the router moves nothing
+  pub stands-route : (f : List ℕ) (p : ProtectionTold) → After (routing f p)
+  stands-route f p = go (route z f p)
+    where
+      go : (t : RouteTold) → Stands z x (eventsOf z h (routing f p) (sentOn t (handedOn z Whole f p)) ++ h)
+      go (onward a) = w
+      go (stopped n) = w
+
   -- ---- any call
 
   pub stands-step : (c : Call) → After c
@@ -388,6 +398,7 @@ module _ (z : Settings) (x : Held) (h : List Event) (w : Stands z x h) where
   stands-step (looking Network f g) = w
   stands-step (looking Aps f g) = w
   stands-step (writing a c k r o) = stands-write a c k r o
+  stands-step (routing f p) = stands-route f p
 
 -- after any calls
 pub stands : (z : Settings) (own : ℕ) (cs : List Call) → Stands z (run z own cs) (story z (exchanges (replies z own) cs))

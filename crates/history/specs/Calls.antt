@@ -1,4 +1,5 @@
--- Demand 3 is said "over any sequence of calls": the requests of document 01 (RULES 11.1) with their arguments, and what each answers.
+-- Demand 3 is said "over any sequence of calls": the requests of document 01 and routing, of 02 (i) (RULES 11.1), with their arguments,
+-- and what each answers.
 -- Assumes nothing.
 use mathlib.Core.Bool.{Bool, true, false}
 use mathlib.Core.List.{List, [], _∷_}
@@ -6,9 +7,10 @@ use Prim.Native.Nat.{ℕ}
 use lib.ListN.{take}
 use Rattle.octets.specs.Keys.{Key}
 use Rattle.octets.specs.Lists.{Octets}
-use Rattle.answers.specs.Numbers.{Told, done, refused, FrameTold, opened, sealed, written, turnedDown}
+use Rattle.answers.specs.Numbers.{Told, done, refused, FrameTold, opened, sealed, written, turnedDown, ProtectionTold}
 use Rattle.frames.specs.declared.Layer.{Layer}
 use Rattle.commands.specs.declared.Command.{Command}
+use Rattle.router.specs.Routing.{RouteTold, onward, stopped}
 
 -- The board and the lists are what the last call left; every other argument is here, and may be anything. The network layer
 -- looks neither at a sender that the caller gives nor at a partner and a key identifier.
@@ -31,12 +33,15 @@ pub data Call : Type 0 where
   looking : Layer → List ℕ → ℕ → Call
   -- whether it asks for an acknowledgement, command, its key or hash, its TLVs or inner frame, output
   writing : Bool → Command → List ℕ → List ℕ → List ℕ → Call
+  -- frame, its protection; the router looks at neither board nor lists
+  routing : List ℕ → ProtectionTold → Call
 
--- what a call answers; one that writes a frame leaves an output too
+-- what a call answers; one that writes a frame leaves an output too, and the router hands an inner frame on
 pub data Reply : Type 0 where
   answered : Told → Reply
   gave : FrameTold → List ℕ → Reply
   looked : Bool → Reply
+  sentOn : RouteTold → List ℕ → Reply
 
 -- "A refusal returns its number and nothing else": every other reply is none, whatever it tells
 abbrev pub refuses : Reply → Bool
@@ -47,8 +52,10 @@ refuses (gave (sealed n) o) = false
 refuses (gave (written n) o) = false
 refuses (gave (turnedDown n) o) = true
 refuses (looked t) = false
+refuses (sentOn (onward a) s) = false
+refuses (sentOn (stopped n) s) = true
 
--- the frame that a reply hands out: of the output that it left, as many octets as it tells
+-- the frame that a reply hands out: of the output that it left, as many octets as it tells; of the router, the inner frame
 abbrev pub handedOut : Reply → List ℕ
 handedOut (answered t) = []
 handedOut (gave (opened n a p) o) = take n o
@@ -56,6 +63,8 @@ handedOut (gave (sealed n) o) = take n o
 handedOut (gave (written n) o) = take n o
 handedOut (gave (turnedDown n) o) = []
 handedOut (looked t) = []
+handedOut (sentOn (onward a) s) = s
+handedOut (sentOn (stopped n) s) = []
 
 -- a call with its reply; in every list of calls the last one stands first
 pub record Exchange : Type 0 where
@@ -81,6 +90,7 @@ toSeal (opening l f g o) = []
 toSeal (sealing l f a k o) = f
 toSeal (looking l f g) = []
 toSeal (writing a c k r o) = []
+toSeal (routing f p) = []
 
 -- what is handed in to be sealed is octets, as everything is that a program can hand in
 abbrev pub SealsOctets : List Call → Type 0

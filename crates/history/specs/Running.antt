@@ -6,7 +6,7 @@ use mathlib.Core.List.{List, [], _∷_}
 use Prim.Native.Nat.{ℕ, _*_, _^_, _<_}
 use lib.ListN.{replicate}
 use Rattle.settings.specs.Settings.{Settings, ours}
-use Rattle.history.specs.Calls.{Call, install, switch, addLink, removeLink, forget, opening, sealing, looking, writing, Reply, answered, gave, looked, Replies}
+use Rattle.history.specs.Calls.{Call, install, switch, addLink, removeLink, forget, opening, sealing, looking, writing, routing, Reply, answered, gave, looked, sentOn, Replies}
 use Rattle.history.specs.Statement.{First, Second}
 use Rattle.answers.specs.Numbers.{done}
 use Rattle.frames.specs.declared.Layer.the-variants.{Network, Aps}
@@ -20,6 +20,8 @@ use Rattle.network.specs.Sealing as networkSeals
 use Rattle.aps.specs.Opening as aps
 use Rattle.aps.specs.Sealing as apsSeals
 use Rattle.commands.specs.Writing as commands
+use Rattle.router.specs.declared.Portion.the-variants.{Whole}
+use Rattle.router.specs.Routing as router
 
 -- the state and the two lent lists
 pub record Held : Type 0 where
@@ -52,7 +54,7 @@ byNetwork x r = to (gave (r .answer) (r .leaves .out)) (held (x .board) (r .leav
 abbrev pub byFrame : Held → Framed → Step
 byFrame x r = to (gave (r .answer) (r .out)) (held (r .board) (x .lists))
 
--- one call
+-- one call; routing asks the router where the inner frame goes, and for that frame whole
 abbrev pub step : Settings → Call → Held → Step
 step z (install i n k) x = byLists (requests.install z (x .board) (x .lists) i n k)
 step z (switch n) x = byBoard x (requests.switch (x .board) n)
@@ -66,6 +68,7 @@ step z (sealing Aps f a k o) x = byFrame x (apsSeals.sealAps z (x .board) f a k 
 step z (looking Network f g) x = to (looked (network.lookNetwork z (x .board) f)) x
 step z (looking Aps f g) x = to (looked (aps.lookAps z (x .board) f g)) x
 step z (writing a c k r o) x = byFrame x (commands.writeCommand z (x .board) a c k r o)
+step z (routing f p) x = to (sentOn (router.route z f p) (router.handedOn z Whole f p)) x
 
 -- a fresh state, and what calls leave of it
 abbrev pub start : Settings → ℕ → Held

@@ -12,7 +12,7 @@ use Rattle.settings.specs.Settings.{Settings, longest, longestAps, top}
 use Rattle.octets.specs.Choice.{if_then_else_, both}
 use Rattle.octets.specs.Keys.{Key}
 use Rattle.octets.specs.Lists.{Octets}
-use Rattle.history.specs.Calls.{Call, opening, Reply, answered, gave, looked, refuses, Replies, exchanges, SealsOctets}
+use Rattle.history.specs.Calls.{Call, opening, Reply, answered, gave, looked, sentOn, refuses, Replies, exchanges, SealsOctets}
 use Rattle.history.specs.Events.{Holder, slot, link, nowhere, Installation, none, key, HeardFrame, SentFrame, Event, keyIn, holderFor, heardIn, isFrom, senders, sentIn}
 use Rattle.history.specs.Story.{story}
 use Rattle.answers.specs.Numbers.{clear, under}
@@ -99,6 +99,7 @@ tellsKey (gave (sealed n) o) = false
 tellsKey (gave (written n) o) = false
 tellsKey (gave (turnedDown n) o) = false
 tellsKey (looked t) = false
+tellsKey (sentOn t s) = false
 
 -- A secured frame, and one that reading refuses, is opened, which is any reply but a refusal, exactly when the checks pass (t).
 -- Of an unsecured one the reply tells no key.

@@ -5,7 +5,7 @@ use mathlib.Core.List.{List, [], _∷_, _++_}
 use Prim.Native.Nat.{ℕ}
 use Rattle.settings.specs.Settings.{Settings}
 use Rattle.octets.specs.Choice.{if_then_else_}
-use Rattle.history.specs.Calls.{Call, install, switch, addLink, removeLink, forget, opening, sealing, looking, writing, Reply, refuses, handedOut, Exchange}
+use Rattle.history.specs.Calls.{Call, install, switch, addLink, removeLink, forget, opening, sealing, looking, writing, routing, Reply, refuses, handedOut, Exchange}
 use Rattle.history.specs.Events.{Holder, slot, link, Installation, none, key, Event, keyed, forgot, heard, sent, keyIn, sameKey, holderFor}
 use Rattle.frames.specs.declared.Layer.{Layer}
 use Rattle.frames.specs.Reading.{Reading, refused, plain, secured, reading}
@@ -21,7 +21,8 @@ hearing h l f p (secured s) =
 hearing h l f p (plain n) = []
 hearing h l f p (refused n) = []
 
--- what a call tells that was not refused and handed out the frame p
+-- What a call tells that was not refused and handed out the frame p. Document 02 (i): "Demand 3 counts the inner frame as sealed
+-- once, by its own seal; wrapping it or sending it on seals nothing."
 abbrev pub telling : Settings → List Event → Call → List ℕ → List Event
 telling z h (install i n k) p = installing h (slot i) (key n k)
 telling z h (switch n) p = []
@@ -32,6 +33,7 @@ telling z h (opening l f g o) p = hearing h l f p (reading z l f g)
 telling z h (sealing l f a k o) p = sent (record { layer = l; plain = f; octets = p }) ∷ []
 telling z h (looking l f g) p = []
 telling z h (writing a c k r o) p = []
+telling z h (routing f q) p = []
 
 -- what a call and its reply tell, after the events h
 abbrev pub eventsOf : Settings → List Event → Call → Reply → List Event
