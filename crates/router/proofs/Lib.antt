@@ -1,3 +1,4 @@
 pub mod Stops
+pub mod One
 pub mod Portions
 pub mod Through

@@ -1,10 +1,13 @@
--- The portions of an inner frame: each lies inside it, and the four joined are the inner frame.
+-- The portions of an inner frame: each lies inside it, the four joined are the inner frame, and all are empty where the router
+-- refuses.
 -- Assumes nothing.
-use mathlib.Core.Path.{_≡_, refl, sym, ap, ap₂, _∙_}
+use mathlib.Core.Path.{_≡_, refl, sym, ap, ap₂, subst, _∙_}
+use mathlib.Core.Bool.{false}
 use mathlib.Core.Logic.{_⊎_, inl, inr}
 use mathlib.Core.List.{List, [], _∷_, _++_}
 use Prim.Native.Nat.{ℕ, zero, suc, _+_, _-_, _≤_}
 use native.Mathlib.Omega.{arith}
+use lib.Dec.{eqb}
 use lib.ListN.{length, take, drop, length-drop}
 use lib.Seq.{length-take-le, take-take, take-add, drop-drop}
 use borrow.Author.Tests.{eq-eqb, ne-eqb}
@@ -12,12 +15,31 @@ use Rattle.settings.specs.Settings.{Settings, apsAux}
 use Rattle.answers.specs.Numbers.{ProtectionTold}
 use Rattle.commands.specs.declared.Span.{Span}
 use Rattle.commands.specs.Table.{leastInner}
-use Rattle.commands.specs.Reading.{judge}
+use Rattle.commands.specs.Numbers.{CommandTold, untyped, typed}
+use Rattle.commands.specs.Reading.{ReadTold, judge}
 use Rattle.commands.specs.Parts.{octetsAt, span, nowhere, innerSpan}
-use Rattle.commands.proofs.Inner.{inner-least, inner-within}
+use Rattle.commands.proofs.Inner.{named, inner-ways, inner-least, inner-within}
 use Rattle.router.specs.declared.Portion.{Portion}
 use Rattle.router.specs.declared.Portion.the-variants.{Whole, Header, Auxiliary, Payload, Tag}
-use Rattle.router.specs.Routing.{startOf, endOf, portionIn, portionSpan, handedOn, joined}
+use Rattle.router.specs.Routing.{RouteTold, onward, stopped, tunnelTo, routeOf, route, startOf, endOf, portionIn, portionSpan, handedOn, joined}
+
+-- ---- what the router tells and what it hands on go together
+
+-- a refusal hands nothing on, a destination an inner frame
+abbrev Agree : Settings → RouteTold → Span → Type 0
+Agree z (stopped n) q = q ≡ nowhere
+Agree z (onward d) q = leastInner z ≤ q .count
+
+other-stops : (c : CommandTold) → eqb (named c) 0x0e ≡ false → tunnelTo c ≡ stopped 11
+unfolding tunnelTo
+other-stops (untyped i xs) e = simp e
+other-stops (typed i t xs) e = refl
+
+route-inner : (z : Settings) (f : List ℕ) (p : ProtectionTold) → Agree z (route z f p) (innerSpan (length f) (judge z f p))
+unfolding route routeOf tunnelTo
+route-inner z f p =
+    inner-ways z f p (λ (r : ReadTold) (q : Span). Agree z (routeOf r) q) (λ n. refl)
+    (λ c e. subst (λ (t : RouteTold). Agree z t nowhere) (sym (other-stops c e)) refl) (λ l. l)
 
 -- ---- parts of parts
 
@@ -113,6 +135,17 @@ module _ (z : Settings) (f : List ℕ) (p : ProtectionTold) where
           let start : q .from + 0 ≡ q .from = omega arith in
           let count : q .count - 0 ≡ q .count = omega arith in
           ap (octetsAt f) (some-on some Whole) ∙ ap₂ (λ (i n : ℕ). take n (drop i f)) start count
+
+  -- "empty if refused"
+  pub stopped-empty : (n : ℕ) → route z f p ≡ stopped n → (w : Portion) → handedOn z w f p ≡ []
+  stopped-empty n e w =
+      let d = subst (λ (t : RouteTold). Agree z t q) e (route-inner z f p) in
+      ap (octetsAt f) (none-on w (ap (λ (x : Span). x .count) d) ∙ d)
+
+  pub onward-least : (d : ℕ) → route z f p ≡ onward d → leastInner z ≤ length (handedOn z Whole f p)
+  onward-least d e =
+      let l = subst (λ (t : RouteTold). Agree z t q) e (route-inner z f p) in
+      omega (arith, ap length whole-on, inner-count)
 
   pub four-joined : joined z f p ≡ handedOn z Whole f p
   four-joined = go (inner-least z f p) ∙ sym whole-on
