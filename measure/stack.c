@@ -1,5 +1,6 @@
 /* What each of the board's calls takes of the stack, at full frames: sealing and opening at both layers (APS under key
-   identifier 3, with its keyed hash), looking, the requests that change keys, and a command written and read. */
+   identifier 3, with its keyed hash), looking, the requests that change keys, a command written and read, a tunnel routed. */
+#define _GNU_SOURCE
 #include "cases.h"
 #include <stdio.h>
 #include <stdlib.h>
@@ -26,15 +27,17 @@ u8 aps__looking__look_frame(const void *board, lent frame, uint64_t caller);
 void commands__writer__write_command(void *, const void *board, u8 acknowledged, const void *command, lent key, lent rest,
                                      lent out);
 void commands__reader__read_command(void *, lent frame, const void *protection);
+void router__routing__route(void *, lent frame, const void *protection);
 
 /* ---- what is lent. An answer has a board somewhere in it; zeros are a Transport-Key of type 1, and no protection. */
 #define OWN 0x1122334455667788ull
-enum { NETWORK = 98, NETWORK_SEALED = 116, APS = 91, APS_SEALED = 108, COMMAND = 37, ROWS = 64 };
+enum { NETWORK = 98, NETWORK_SEALED = 116, APS = 91, APS_SEALED = 108, COMMAND = 37, TUNNEL = 108, ROWS = 64 };
 static const u8 key[16] = "0123456789abcdef";
 static u8 answer[2048], board[1024], command[256], protection[256];
 static uint64_t addresses[ROWS];
 static uint32_t floors[ROWS];
 static u8 plain[NETWORK], aps[APS], sealed[NETWORK_SEALED], aps_sealed[APS_SEALED], written[COMMAND];
+static u8 tunnel[TUNNEL] = { 0x01, 0, 0x0e, 1, 2, 3, 4, 5, 6, 7, 8, 0x21, 0, 0x20 };
 static u8 out[NETWORK_SEALED];
 static struct slice a = { addresses, ROWS }, f = { floors, ROWS }, o = { out, sizeof out };
 
@@ -65,6 +68,7 @@ CALL(install, DONE(board__keys__install(answer, board, &a, &f, 1, 6, key)))
 CALL(remove_link, DONE(board__partners__remove_link(answer, board, OWN)))
 CALL(switch_key, DONE(board__keys__switch(answer, board, 5)))
 CALL(read_command, DONE(commands__reader__read_command(answer, SLICE(written, COMMAND), protection)))
+CALL(route, DONE(router__routing__route(answer, SLICE(tunnel, TUNNEL), protection)))
 CALL(make, DONE(board__state__make(answer, OWN)))
 CALL(forget, DONE(board__rows__forget(answer, &a, &f, 1, 6)))
 
@@ -81,6 +85,8 @@ static void setup(void) {
     seal_aps_rattle(); memcpy(aps_sealed, out, APS_SEALED);
     write_command_rattle(); memcpy(written, out, COMMAND);
     must(written[0] == 0x41 && written[2] == 5 && written[3] == 1, "the command");
+    route_rattle();
+    must(memmem(answer, 32, tunnel + 3, 8) != NULL, "the tunnel");
     memset(out, 0xee, sizeof out); open_network_rattle();
     must(!memcmp(out, plain, NETWORK), "the network frame");
     memset(out, 0xee, sizeof out); open_aps_rattle();
@@ -89,4 +95,4 @@ static void setup(void) {
 
 MEASURED(setup(), ALONE(open_network), ALONE(open_aps), ALONE(seal_network), ALONE(seal_aps), ALONE(look_network),
          ALONE(look_aps), ALONE(add_link), ALONE(write_command), ALONE(install), ALONE(remove_link), ALONE(switch_key),
-         ALONE(read_command), ALONE(make), ALONE(forget))
+         ALONE(read_command), ALONE(route), ALONE(make), ALONE(forget))
