@@ -5,6 +5,7 @@ use mathlib.Core.Path.{_≡_, refl, sym, ap, ap₂, subst, _∙_}
 use mathlib.Core.Bool.{false}
 use mathlib.Core.Logic.{_⊎_, inl, inr}
 use mathlib.Core.List.{List, [], _∷_, _++_}
+use denote.Ref.{RefT}
 use Prim.Native.Nat.{ℕ, zero, suc, _+_, _-_, _≤_}
 use native.Mathlib.Omega.{arith}
 use lib.Dec.{eqb}
@@ -12,12 +13,13 @@ use lib.ListN.{length, take, drop, length-drop}
 use lib.Seq.{length-take-le, take-take, take-add, drop-drop}
 use borrow.Author.Tests.{eq-eqb, ne-eqb}
 use Rattle.settings.specs.Settings.{Settings, apsAux}
+use Rattle.octets.specs.Parts.{Part}
 use Rattle.answers.specs.Numbers.{ProtectionTold}
 use Rattle.commands.specs.declared.Span.{Span}
 use Rattle.commands.specs.Table.{leastInner}
 use Rattle.commands.specs.Numbers.{CommandTold, untyped, typed}
 use Rattle.commands.specs.Reading.{ReadTold, judge}
-use Rattle.commands.specs.Parts.{octetsAt, span, nowhere, innerSpan}
+use Rattle.commands.specs.Parts.{octetsAt, cutAt, span, nowhere, innerSpan}
 use Rattle.commands.proofs.Inner.{named, inner-ways, inner-least, inner-within}
 use Rattle.router.specs.declared.Portion.{Portion}
 use Rattle.router.specs.declared.Portion.the-variants.{Whole, Header, Auxiliary, Payload, Tag}
@@ -160,21 +162,34 @@ module _ (z : Settings) (f : List ℕ) (p : ProtectionTold) where
           simp (some-on some Header, some-on some Auxiliary, some-on some Payload, some-on some Tag)
           (four z (q .count) l f (q .from))
 
-  -- ---- a portion cut out of the inner frame m
+-- ---- what the contract of `portion_of` promises of its five calls on a frame s: joined, the four are the inner frame
 
-  module _ (m : List ℕ) (e : m ≡ octetsAt f q) where
-    pub same-count : length m ≡ q .count
-    same-count = ap length e ∙ inner-count
+module _ (z : Settings) (s : RefT (List ℕ)) (p : ProtectionTold) (part : Portion → Part)
+    (promised : (w : Portion) → part w ≡ cutAt s (portionSpan z w (s .now) p)) where
+  octets-promised : (w : Portion) → part w .octets ≡ handedOn z w (s .now) p
+  octets-promised w = ap (λ (x : Part). x .octets) (promised w)
+
+  pub calls-joined : part Header .octets ++ part Auxiliary .octets ++ part Payload .octets ++ part Tag .octets ≡ part Whole .octets
+  calls-joined =
+      simp (octets-promised Header, octets-promised Auxiliary, octets-promised Payload, octets-promised Tag, octets-promised Whole)
+      (four-joined z (s .now) p)
+
+-- ---- a portion cut out of the inner frame m
+
+module _ (z : Settings) (f : List ℕ) (p : ProtectionTold) where
+  module _ (m : List ℕ) (e : m ≡ octetsAt f (q z f p)) where
+    pub same-count : length m ≡ q z f p .count
+    same-count = ap length e ∙ inner-count z f p
 
     module _ (some : length m ≡ 0 → ⊥) where
       pub long-enough : leastInner z ≤ length m
-      long-enough = omega (arith, same-count, some-least (λ d. some (same-count ∙ d)))
+      long-enough = omega (arith, same-count, some-least z f p (λ d. some (same-count ∙ d)))
 
       pub its-span : (w : Portion)
-          → portionSpan z w f p ≡ span (q .from + startOf z w (length m)) (endOf z w (length m) - startOf z w (length m))
+          → portionSpan z w f p ≡ span (q z f p .from + startOf z w (length m)) (endOf z w (length m) - startOf z w (length m))
       its-span w =
-          some-on (λ d. some (same-count ∙ d)) w
-          ∙ ap (λ (n : ℕ). span (q .from + startOf z w n) (endOf z w n - startOf z w n)) (sym same-count)
+          some-on z f p (λ d. some (same-count ∙ d)) w
+          ∙ ap (λ (n : ℕ). span (q z f p .from + startOf z w n) (endOf z w n - startOf z w n)) (sym same-count)
 
       pub its-octets : (w : Portion) (n i : ℕ) → i ≡ startOf z w (length m) → n ≡ endOf z w (length m) - i
           → take n (drop i m) ≡ handedOn z w f p
@@ -182,6 +197,6 @@ module _ (z : Settings) (f : List ℕ) (p : ProtectionTold) where
           let h = start-end z (length m) long-enough w in
           let k = end-within z (length m) long-enough w in
           ap (λ (l : List ℕ). take n (drop i l)) e
-          ∙ part-within f (q .from) (q .count) i n (omega (arith, same-count))
-          ∙ ap₂ (λ (x y : ℕ). take x (drop (q .from + y) f)) (t ∙ ap (λ (y : ℕ). endOf z w (length m) - y) s) s
+          ∙ part-within f (q z f p .from) (q z f p .count) i n (omega (arith, same-count))
+          ∙ ap₂ (λ (x y : ℕ). take x (drop (q z f p .from + y) f)) (t ∙ ap (λ (y : ℕ). endOf z w (length m) - y) s) s
           ∙ ap (octetsAt f) (sym (its-span w))

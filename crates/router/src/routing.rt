@@ -73,7 +73,8 @@ fn end_of(portion: Portion, n: usize) -> usize
     }
 }
 
-// The inner frame of that frame, or a portion of it; empty if the router refuses the frame.
+// The inner frame of that frame, or a portion of it; empty if the router refuses the frame. Joined,
+// header, auxiliary header, payload and tag are the inner frame (`calls-joined`, proofs/Portions).
 pub fn portion_of(frame: &[u8], protection: Guard, portion: Portion) -> &[u8]
     ensures { λ r. ⌜ seen r ≡ cutAt (frame .entry) (portionSpan ours portion (now (frame .entry)) (protectionOf protection)) ⌝ }
 {
