@@ -26,9 +26,9 @@ use Rattle.commands.proofs.Bounds.{Holds, inner-holds}
 use Rattle.commands.proofs.Judging.{Meets, judge-told}
 
 -- the identifier of a command
-abbrev pub named : CommandTold → ℕ
-named (untyped i xs) = i
-named (typed i t xs) = i
+abbrev pub idOf : CommandTold → ℕ
+idOf (untyped i xs) = i
+idOf (typed i t xs) = i
 
 module _ (z : Settings) (f : List ℕ) (p : ProtectionTold) where
   least : fits z (ruleOf Tunnel .rest) (drop (2 + ruleOf Tunnel .size) f) ≡ true → leastInner z ≤ restSpan (length f) 11 .count
@@ -39,7 +39,7 @@ module _ (z : Settings) (f : List ℕ) (p : ProtectionTold) where
 
   -- what holds of a refusal, of another command and of a Tunnel, holds of every frame
   pub inner-ways : (P : ReadTold → Span → Type 0) → ((n : ℕ) → P (unread n) nowhere)
-      → ((c : CommandTold) → eqb (named c) 0x0e ≡ false → P (read c) nowhere)
+      → ((c : CommandTold) → eqb (idOf c) 0x0e ≡ false → P (read c) nowhere)
       → (leastInner z ≤ restSpan (length f) 11 .count → P (read (untyped 0x0e (numberAt 8 f 3 ∷ []))) (restSpan (length f) 11))
       → P (readCommand z f p) (innerSpan (length f) (judge z f p))
   unfolding readCommand innerSpan innerIn ruleOf commandIn

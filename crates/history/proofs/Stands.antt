@@ -45,7 +45,7 @@ use Rattle.aps.specs.Opening.{withFloor}
 use Rattle.commands.specs.declared.Command.{Command}
 use Rattle.commands.specs.Writing.{apsRaised}
 use Rattle.router.specs.declared.Portion.the-variants.{Whole}
-use Rattle.router.specs.Routing.{RouteTold, onward, stopped, route, handedOn}
+use Rattle.router.specs.Routing.{RouteTold, onward, halted, route, handedOn}
 use Rattle.board.specs.Requests as requests
 use Rattle.network.specs.Opening.{Lent, Opening}
 use Rattle.network.proofs.Ways as network
@@ -382,7 +382,7 @@ module _ (z : Settings) (x : Held) (h : List Event) (w : Stands z x h) where
     where
       go : (t : RouteTold) → Stands z x (eventsOf z h (routing f p) (sentOn t (handedOn z Whole f p)) ++ h)
       go (onward a) = w
-      go (stopped n) = w
+      go (halted n) = w
 
   -- ---- any call
 

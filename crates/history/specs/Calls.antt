@@ -10,7 +10,7 @@ use Rattle.octets.specs.Lists.{Octets}
 use Rattle.answers.specs.Numbers.{Told, done, refused, FrameTold, opened, sealed, written, turnedDown, ProtectionTold}
 use Rattle.frames.specs.declared.Layer.{Layer}
 use Rattle.commands.specs.declared.Command.{Command}
-use Rattle.router.specs.Routing.{RouteTold, onward, stopped}
+use Rattle.router.specs.Routing.{RouteTold, onward, halted}
 
 -- The board and the lists are what the last call left; every other argument is here, and may be anything. The network layer
 -- looks neither at a sender that the caller gives nor at a partner and a key identifier.
@@ -53,7 +53,7 @@ refuses (gave (written n) o) = false
 refuses (gave (turnedDown n) o) = true
 refuses (looked t) = false
 refuses (sentOn (onward a) s) = false
-refuses (sentOn (stopped n) s) = true
+refuses (sentOn (halted n) s) = true
 
 -- the frame that a reply hands out: of the output that it left, as many octets as it tells; of the router, the inner frame
 abbrev pub handedOut : Reply → List ℕ
@@ -64,7 +64,7 @@ handedOut (gave (written n) o) = take n o
 handedOut (gave (turnedDown n) o) = []
 handedOut (looked t) = []
 handedOut (sentOn (onward a) s) = s
-handedOut (sentOn (stopped n) s) = []
+handedOut (sentOn (halted n) s) = []
 
 -- a call with its reply; in every list of calls the last one stands first
 pub record Exchange : Type 0 where

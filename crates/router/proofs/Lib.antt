@@ -1,4 +1,3 @@
 pub mod Stops
 pub mod One
 pub mod Portions
-pub mod Through

@@ -4,11 +4,11 @@ use mathlib.Core.Path.{_≡_, refl, sym, ap, _∙_}
 use Rattle.answers.proofs.One.{refusalOf, refusal-back}
 use Rattle.router.specs.declared.Routed.{Routed}
 use Rattle.router.specs.declared.Routed.the-variants.{Onward, Refused}
-use Rattle.router.specs.Routing.{RouteTold, onward, stopped, toldRouted}
+use Rattle.router.specs.Routing.{RouteTold, onward, halted, toldRouted}
 
 routedBack : RouteTold → Routed
 routedBack (onward a) = Onward a
-routedBack (stopped n) = Refused (refusalOf n)
+routedBack (halted n) = Refused (refusalOf n)
 
 routed-back : (r : Routed) → routedBack (toldRouted r) ≡ r
 unfolding routedBack

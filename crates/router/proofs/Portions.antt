@@ -20,19 +20,20 @@ use Rattle.commands.specs.Table.{leastInner}
 use Rattle.commands.specs.Numbers.{CommandTold, untyped, typed}
 use Rattle.commands.specs.Reading.{ReadTold, judge}
 use Rattle.commands.specs.Parts.{octetsAt, cutAt, span, nowhere, innerSpan}
-use Rattle.commands.proofs.Inner.{named, inner-ways, inner-least, inner-within}
+use Rattle.commands.proofs.Bounds.{same-span}
+use Rattle.commands.proofs.Inner.{idOf, inner-ways, inner-least, inner-within}
 use Rattle.router.specs.declared.Portion.{Portion}
 use Rattle.router.specs.declared.Portion.the-variants.{Whole, Header, Auxiliary, Payload, Tag}
-use Rattle.router.specs.Routing.{RouteTold, onward, stopped, tunnelTo, routeOf, route, startOf, endOf, portionIn, portionSpan, handedOn, joined}
+use Rattle.router.specs.Routing.{RouteTold, onward, halted, tunnelTo, routeOf, route, startOf, endOf, portionIn, portionSpan, handedOn, joined}
 
 -- ---- what the router tells and what it hands on go together
 
 -- a refusal hands nothing on, a destination an inner frame
 abbrev Agree : Settings → RouteTold → Span → Type 0
-Agree z (stopped n) q = q ≡ nowhere
+Agree z (halted n) q = q ≡ nowhere
 Agree z (onward d) q = leastInner z ≤ q .count
 
-other-stops : (c : CommandTold) → eqb (named c) 0x0e ≡ false → tunnelTo c ≡ stopped 11
+other-stops : (c : CommandTold) → eqb (idOf c) 0x0e ≡ false → tunnelTo c ≡ halted 11
 unfolding tunnelTo
 other-stops (untyped i xs) e = simp e
 other-stops (typed i t xs) e = refl
@@ -76,21 +77,24 @@ module _ (z : Settings) (n : ℕ) (h : leastInner z ≤ n) where
   end-within Tag = omega arith
 
   -- header, auxiliary header, payload and tag of the n octets from place a on
+  abbrev behind : ℕ
+  behind = 2 + apsAux
+
   four : (l : List ℕ) (a : ℕ)
-      → take 2 (drop (a + 0) l) ++ take 13 (drop (a + 2) l) ++ take (n - z .tag - 15) (drop (a + 15) l)
+      → take 2 (drop (a + 0) l) ++ take (behind - 2) (drop (a + 2) l) ++ take (n - z .tag - behind) (drop (a + behind) l)
       ++ take (n - (n - z .tag)) (drop (a + (n - z .tag)) l)
       ≡ take n (drop a l)
   four l a =
-      let b = n - z .tag - 15 in
+      let b = n - z .tag - behind in
       let first : a + 0 ≡ a = omega arith in
-      let middle : a + (n - z .tag) ≡ a + (2 + 13 + b) = omega arith in
+      let middle : a + (n - z .tag) ≡ a + (behind + b) = omega arith in
       let last : n - (n - z .tag) ≡ z .tag = omega arith in
-      let whole : 2 + 13 + b + z .tag ≡ n = omega arith in
-      ap (λ (i : ℕ). take 2 (drop i l) ++ take 13 (drop (a + 2) l) ++ take b (drop (a + 15) l)
+      let whole : behind + b + z .tag ≡ n = omega arith in
+      ap (λ (i : ℕ). take 2 (drop i l) ++ take apsAux (drop (a + 2) l) ++ take b (drop (a + behind) l)
       ++ take (n - (n - z .tag)) (drop (a + (n - z .tag)) l)) first
-      ∙ ap₂ (λ (s : List ℕ) (i : ℕ). s ++ take b (drop (a + 15) l) ++ take (n - (n - z .tag)) (drop i l)) (meet l a 2 13) middle
-      ∙ ap₂ (λ (s : List ℕ) (m : ℕ). s ++ take m (drop (a + (2 + 13 + b)) l)) (meet l a 15 b) last
-      ∙ meet l a (2 + 13 + b) (z .tag)
+      ∙ ap₂ (λ (s : List ℕ) (i : ℕ). s ++ take b (drop (a + behind) l) ++ take (n - (n - z .tag)) (drop i l)) (meet l a 2 apsAux) middle
+      ∙ ap₂ (λ (s : List ℕ) (m : ℕ). s ++ take m (drop (a + (behind + b)) l)) (meet l a behind b) last
+      ∙ meet l a (behind + b) (z .tag)
       ∙ ap (λ (m : ℕ). take m (drop a l)) whole
 
 -- ---- the inner frame of a frame f that came under p
@@ -127,20 +131,20 @@ module _ (z : Settings) (f : List ℕ) (p : ProtectionTold) where
 
   -- ---- the four joined
 
-  pub whole-on : handedOn z Whole f p ≡ octetsAt f q
-  whole-on = go (inner-least z f p)
+  -- the inner frame whole is the reader's own part
+  pub whole-span : portionSpan z Whole f p ≡ q
+  whole-span = go (inner-least z f p)
     where
-      go : (q ≡ nowhere) ⊎ (leastInner z ≤ q .count) → handedOn z Whole f p ≡ octetsAt f q
-      go (inl d) = ap (octetsAt f) (none-on Whole (ap (λ (x : Span). x .count) d))
-      go (inr l) =
-          let some : (q .count ≡ 0 → ⊥) = λ e. omega arith in
-          let start : q .from + 0 ≡ q .from = omega arith in
-          let count : q .count - 0 ≡ q .count = omega arith in
-          ap (octetsAt f) (some-on some Whole) ∙ ap₂ (λ (i n : ℕ). take n (drop i f)) start count
+      go : (q ≡ nowhere) ⊎ (leastInner z ≤ q .count) → portionSpan z Whole f p ≡ q
+      go (inl d) = none-on Whole (ap (λ (x : Span). x .count) d)
+      go (inr l) = some-on (λ e. omega arith) Whole ∙ same-span (omega arith) (omega arith)
+
+  pub whole-on : handedOn z Whole f p ≡ octetsAt f q
+  whole-on = ap (octetsAt f) whole-span
 
   -- "empty if refused"
-  pub stopped-empty : (n : ℕ) → route z f p ≡ stopped n → (w : Portion) → handedOn z w f p ≡ []
-  stopped-empty n e w =
+  pub halted-empty : (n : ℕ) → route z f p ≡ halted n → (w : Portion) → handedOn z w f p ≡ []
+  halted-empty n e w =
       let d = subst (λ (t : RouteTold). Agree z t q) e (route-inner z f p) in
       ap (octetsAt f) (none-on w (ap (λ (x : Span). x .count) d) ∙ d)
 

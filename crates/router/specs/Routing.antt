@@ -24,20 +24,20 @@ use Rattle.router.specs.declared.Portion.the-variants.{Whole, Header, Au
 -- what the router tells: the destination, or a refusal's number
 pub data RouteTold : Type 0 where
   onward : ℕ → RouteTold
-  stopped : ℕ → RouteTold
+  halted : ℕ → RouteTold
 
 abbrev pub toldRouted : Routed → RouteTold
 toldRouted (Onward a) = onward a
-toldRouted (Refused r) = stopped (numberOf r)
+toldRouted (Refused r) = halted (numberOf r)
 
 -- 0E is Tunnel, whose one number is the destination
 unfoldable pub tunnelTo : CommandTold → RouteTold
-tunnelTo (untyped i xs) = if eqb i 0x0e then onward (at xs 0) else stopped 11
-tunnelTo (typed i t xs) = stopped 11
+tunnelTo (untyped i xs) = if eqb i 0x0e then onward (at xs 0) else halted 11
+tunnelTo (typed i t xs) = halted 11
 
 -- the reader's refusals, then 11
 unfoldable pub routeOf : ReadTold → RouteTold
-routeOf (unread n) = stopped n
+routeOf (unread n) = halted n
 routeOf (read c) = tunnelTo c
 
 unfoldable pub route : Settings → List ℕ → ProtectionTold → RouteTold

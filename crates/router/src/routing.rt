@@ -37,7 +37,8 @@ fn tunnel_to(c: Command) -> Routed
     }
 }
 
-// Where the frame inside a plain APS frame that came under that protection goes.
+// Where the frame inside a plain APS frame that came under that protection goes: the destination of
+// a Tunnel, else why it goes nowhere. It is lent nothing that it could change.
 pub fn route(frame: &[u8], protection: Guard) -> Routed
     ensures { λ r. ⌜ toldRouted r ≡ Routing·route ours (now (frame .entry)) (protectionOf protection) ⌝ }
 {
@@ -74,7 +75,7 @@ fn end_of(portion: Portion, n: usize) -> usize
 }
 
 // The inner frame of that frame, or a portion of it; empty if the router refuses the frame. Joined,
-// header, auxiliary header, payload and tag are the inner frame (`calls-joined`, proofs/Portions).
+// header, auxiliary header, payload and tag are the inner frame (`four-joined`, `calls-joined`).
 pub fn portion_of(frame: &[u8], protection: Guard, portion: Portion) -> &[u8]
     ensures { λ r. ⌜ seen r ≡ cutAt (frame .entry) (portionSpan ours portion (now (frame .entry)) (protectionOf protection)) ⌝ }
 {

@@ -3,18 +3,16 @@
 -- to refuse, to the same plain command. It is over any fair settings, as the round trip is on which it stands; at our settings
 -- the command has 3 to 80 octets.
 -- Assumes nothing.
-use mathlib.Core.Path.{_≡_, refl, sym, ap, ap₂, subst, _∙_}
+use mathlib.Core.Path.{_≡_, refl, sym, ap, subst, _∙_}
 use mathlib.Core.Bool.{Bool, true, false}
 use mathlib.Core.List.{List, [], append-assoc}
 use Prim.Native.Nat.{ℕ, _+_, _≤_, _<_, _^_}
 use native.Mathlib.Omega.{arith}
-use lib.Dec.{leb}
 use lib.ListN.{length, take, drop}
 use lib.Seq.{take-at}
 use borrow.Author.Tests.{le-leb, lt-ltb}
 use Rattle.settings.specs.Settings.{Settings, ours, longestAps, apsAux}
 use Rattle.octets.specs.Addresses.{noAddress}
-use Rattle.octets.specs.Choice.{both}
 use Rattle.octets.specs.Keys.{theKey}
 use Rattle.octets.specs.Lists.{at, onto, Octets}
 use Rattle.answers.specs.Numbers.{clear, under, opened, sealed, written}
@@ -44,10 +42,10 @@ use Rattle.commands.specs.Reverse.{GivesBack}
 use Rattle.commands.proofs.Laid.{frame-length as command-length}
 use Rattle.commands.proofs.ReadBack.{read-back}
 use Rattle.commands.proofs.WriteBack.{writes-frame}
 use Rattle.router.specs.declared.Portion.the-variants.{Whole}
 use Rattle.router.specs.Routing.{tunnelTo, routeOf, route, handedOn}
-use Rattle.router.specs.Wrapping.{tunnelOctets, longestWrapped, tunnelIn, Wrapped}
+use Rattle.tunnels.specs.Wrapping.{tunnelOctets, longestWrapped, tunnelIn, Wrapped}
 use Rattle.router.proofs.Portions.{whole-on, four-joined}
 
 -- ---- wrapped and handed on
 
@@ -86,7 +84,7 @@ module _ (z : Settings) (w : Board) (ack : Bool) (d : ℕ) (g o : List ℕ) (lon
         raised = ap (λ (r : Framed). r .board) writes;
         routed = ap routeOf (back .command);
         unchanged = on;
-        whole = four-joined z (tunnelIn z w ack d g o) clear ∙ on;
+        four = four-joined z (tunnelIn z w ack d g o) clear ∙ on;
       }
 
 -- ---- what was sealed may be wrapped
@@ -136,17 +134,17 @@ through z fair b f a k o m x of hn ha ho command quiet least most e ex w ack d p
     g : List ℕ
     g = take m (sealAps z b f a k o .out)
 
-    front : take m (sealAps z b f a k o .out) ≡ frameBy (told .seal)
+    front : g ≡ frameBy (told .seal)
     front =
         ap (λ (r : Framed). take m (r .out)) (told .left)
         ∙ take-at (frameBy (told .seal)) (drop (length (frameBy (told .seal))) o) m (frame-length (told .seal) ∙ sym (told .count))
 
-    size : length (take m (sealAps z b f a k o .out)) ≡ length f + (apsAux + z .tag)
+    size : length g ≡ length f + (apsAux + z .tag)
     size = ap length front ∙ frame-length (told .seal)
 
-    wrapped : Wrapped z w ack d (take m (sealAps z b f a k o .out)) p
+    wrapped : Wrapped z w ack d g p
     wrapped =
-        wraps z w ack d (take m (sealAps z b f a k o .out)) p (omega (arith, size)) (omega (arith, size))
+        wraps z w ack d g p (omega (arith, size)) (omega (arith, size))
         (ap mayTunnel front ∙ sealed-may z b f a k (told .seal) of command quiet) room hd
 
 -- the same of the routines: the contracts are at our settings

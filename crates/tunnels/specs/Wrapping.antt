@@ -13,12 +13,12 @@ use Rattle.board.specs.declared.Board.{Board}
 use Rattle.board.specs.Sending.{Framed}
 use Rattle.commands.specs.declared.Command.the-variants.{Tunnel}
 use Rattle.commands.specs.Writing.{apsRaised, writeCommand}
 use Rattle.router.specs.declared.Portion.the-variants.{Whole}
 use Rattle.router.specs.Routing.{onward, route, handedOn, joined}
 
 -- a Tunnel's own octets: header, identifier and destination
 abbrev pub tunnelOctets : ℕ
-tunnelOctets = 2 + 9
+tunnelOctets = 2 + 1 + 8
 
 -- the octets of the longest plain frame that a Tunnel can hold once it is sealed: 80
 abbrev pub longestWrapped : Settings → ℕ
@@ -38,4 +38,4 @@ pub record Wrapped (z : Settings) (w : Board) (ack : Bool) (d : ℕ) (g o : List
   pub raised : wrapping z w ack d g o .board ≡ apsRaised w
   pub routed : route z (tunnelIn z w ack d g o) clear ≡ onward d
   pub unchanged : handedOn z Whole (tunnelIn z w ack d g o) clear ≡ g
-  pub whole : joined z (tunnelIn z w ack d g o) clear ≡ g
+  pub four : joined z (tunnelIn z w ack d g o) clear ≡ g
