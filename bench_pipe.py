@@ -144,10 +144,25 @@ class Bench:
                           f"{' '.join(map(text, fields))}")
         return rest
 
+    def so_many(self, count, *fields):
+        """The fields after `ok`, which must be so many."""
+        answer = self.ok(*fields)
+        if len(answer) != count:
+            raise Differs(f"{self.name} answered {len(answer)} fields and not {count} to: "
+                          f"{' '.join(map(text, fields))}")
+        return answer
+
+    def unhexed(self, field):
+        """The octets of a field of an answer."""
+        try:
+            return bytes.fromhex(field)
+        except ValueError:
+            raise Differs(f"{self.name} answered what is no hex: {field}") from None
+
     def octets(self, *fields):
         """The octets of an answer that has them as its only field."""
-        answer, = self.ok(*fields)
-        return bytes.fromhex(answer)
+        answer, = self.so_many(1, *fields)
+        return self.unhexed(answer)
 
     def show(self, mark, line):
         """Prints a line of the log."""

@@ -113,7 +113,7 @@ fi
 calls='board::state::make board::keys::install board::keys::switch board::partners::add_link board::partners::remove_link
     board::rows::forget commands::writer::write_command commands::reader::read_command network::opening::open_frame
     network::sealing::seal_frame network::looking::look_frame aps::opening::open_frame aps::sealing::seal_frame
-    aps::looking::look_frame router::routing::route'
+    aps::looking::look_frame router::routing::route router::routing::portion_of'
 for program in small bench; do
     echo
     echo "The board's calls, in the program $program"

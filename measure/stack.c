@@ -28,6 +28,7 @@ void commands__writer__write_command(void *, const void *board, u8 acknowledged,
                                      lent out);
 void commands__reader__read_command(void *, lent frame, const void *protection);
 void router__routing__route(void *, lent frame, const void *protection);
+void router__routing__portion_of(struct slice *, lent frame, const void *protection, const void *portion);
 
 /* ---- what is lent. An answer has a board somewhere in it; zeros are a Transport-Key of type 1, and no protection. */
 #define OWN 0x1122334455667788ull
@@ -69,6 +70,8 @@ CALL(remove_link, DONE(board__partners__remove_link(answer, board, OWN)))
 CALL(switch_key, DONE(board__keys__switch(answer, board, 5)))
 CALL(read_command, DONE(commands__reader__read_command(answer, SLICE(written, COMMAND), protection)))
 CALL(route, DONE(router__routing__route(answer, SLICE(tunnel, TUNNEL), protection)))
+static struct slice handed; /* zeros are also the inner frame, whole */
+CALL(portion, DONE(router__routing__portion_of(&handed, SLICE(tunnel, TUNNEL), protection, command)))
 CALL(make, DONE(board__state__make(answer, OWN)))
 CALL(forget, DONE(board__rows__forget(answer, &a, &f, 1, 6)))
 
@@ -87,6 +90,8 @@ static void setup(void) {
     must(written[0] == 0x41 && written[2] == 5 && written[3] == 1, "the command");
     route_rattle();
     must(memmem(answer, 32, tunnel + 3, 8) != NULL, "the tunnel");
+    portion_rattle();
+    must(handed.at == tunnel + 11 && handed.length == TUNNEL - 11, "the inner frame");
     memset(out, 0xee, sizeof out); open_network_rattle();
     must(!memcmp(out, plain, NETWORK), "the network frame");
     memset(out, 0xee, sizeof out); open_aps_rattle();
@@ -95,4 +100,4 @@ static void setup(void) {
 
 MEASURED(setup(), ALONE(open_network), ALONE(open_aps), ALONE(seal_network), ALONE(seal_aps), ALONE(look_network),
          ALONE(look_aps), ALONE(add_link), ALONE(write_command), ALONE(install), ALONE(remove_link), ALONE(switch_key),
-         ALONE(read_command), ALONE(route), ALONE(make), ALONE(forget))
+         ALONE(read_command), ALONE(route), ALONE(portion), ALONE(make), ALONE(forget))

@@ -116,7 +116,7 @@ def command(path, identifier, *words):
 def sent_on(router, tunnel, destination, inner):
     """The inner frame that the router hands on of a Tunnel, octet for octet the one that was
     sealed, which its header, auxiliary header, payload and tag are too when joined."""
-    to, handed_on, *parts = router.ok("route", "none", tunnel)
+    to, handed_on, *parts = router.so_many(6, "route", "none", tunnel)
     same("the tunnel routed", [to, handed_on], destination.address, inner)
     same("the four parts joined", ["".join(parts)], inner)
     octets = [len(part) // 2 for part in parts]

@@ -33,7 +33,7 @@ DEVICES = (("centre", "aaaaaaaaaaaaaaaa", 0x0000), ("router", "0000000100000000"
            ("joiner", "0000000000000001", 0x0BEE))
 ROUTERS_KEY = bytes.fromhex("7e11c0de00000000000000000000a001")
 NO_KEY = bytes(16)
-OTHER_COMMAND = ("refused", 11, "command")
+NO_COMMAND = ("refused", 11, "command")
 INSIDE = 11                  # where the inner frame starts in a Tunnel without security
 SECURITY = INSIDE + 2        # its security control
 STATUSES = range(8)          # Table 5-1
@@ -130,17 +130,17 @@ def causes(centre, router, joiner, tunnel):
     """Insides that may not stand there, which the router and the writer refuse."""
     for what, place, bits in CAUSES:
         wrong = flipped(tunnel, place, bits)
-        same(f"{what}, routed", router.ask("route", "none", wrong), *OTHER_COMMAND)
+        same(f"{what}, routed", router.ask("route", "none", wrong), *NO_COMMAND)
         same(f"{what}, written", centre.ask("write", "noack", "tunnel", joiner.address,
-                                            wrong[INSIDE:]), *OTHER_COMMAND)
+                                            wrong[INSIDE:]), *NO_COMMAND)
         after(f"{what}: 11 command, when it is routed and when it is written")
     plain = centre.write("ack", "transport1", NETWORK_KEY, 0, joiner.address, centre.address)
     inner = centre.seal_aps(joiner, TRANSPORT, plain)
     same("a sealed command that asks for an acknowledgement, written",
-         centre.ask("write", "noack", "tunnel", joiner.address, inner), *OTHER_COMMAND)
+         centre.ask("write", "noack", "tunnel", joiner.address, inner), *NO_COMMAND)
     after("a genuine Transport-Key that asks for an acknowledgement: 11 command, no Tunnel is"
           " written around it")
-    same("Update-Device routed", router.ask("route", "0", update_of(joiner)), *OTHER_COMMAND)
+    same("Update-Device routed", router.ask("route", "0", update_of(joiner)), *NO_COMMAND)
     after("another command handed to the router: 11 command")
 
 

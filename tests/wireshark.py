@@ -266,7 +266,7 @@ def around(sealer, name, inner, layer, shown):
 def sent_on(sealer, name, tunnel, layer, shown):
     """The frame that the router hands on, in a network frame without security: to a joiner that
     has no network key."""
-    handed_on = bytes.fromhex(sealer.bench.ok("route", "none", tunnel)[1])
+    handed_on = sealer.bench.unhexed(sealer.bench.so_many(6, "route", "none", tunnel)[1])
     front = header(number=7)
     case = Case(f"APS command {name}, sent on by the router", front + handed_on, [layer], [],
                 {**PLAIN, **shown})
