@@ -1,14 +1,14 @@
 -- What the list and the judgement tell of sizes: the parts of a frame that is sound lie inside it.
 -- Assumes nothing.
-use mathlib.Core.Path.{_≡_, sym, ap, subst, _∙_}
+use mathlib.Core.Path.{_≡_, refl, sym, ap, subst, _∙_}
 use mathlib.Core.Bool.{Bool, not}
-use mathlib.Core.List.{List}
-use Prim.Native.Nat.{ℕ, _+_, _-_, _≤_}
+use mathlib.Core.List.{List, [], _∷_}
+use Prim.Native.Nat.{ℕ, zero, suc, _+_, _-_, _≤_}
 use native.Mathlib.Nat.{le-refl}
 use native.Mathlib.Omega.{arith}
 use lib.Dec.{ltb}
 use lib.ListN.{length, take, drop, length-drop, length-take}
-use lib.Seq.{take-all}
+use lib.Seq.{take-all, take-take, drop-drop}
 use borrow.Author.Tests.{ltb-false}
 use Rattle.octets.proofs.Choices.{choose}
 use Rattle.octets.specs.Lists.{at}
@@ -199,6 +199,16 @@ module _ (f : List ℕ) where
     inner-holds g = subst (Holds f) (sym g) (inner-at v (subst (Sized f) (sym e) (judge-sized z f p)))
 
 -- ---- parts
+
+-- a part of a part
+take-within : (m i n : ℕ) (l : List ℕ) → i + m ≤ n → take m (drop i (take n l)) ≡ take m (drop i l)
+take-within m zero n l h = take-take m n l (omega arith)
+take-within m (suc i) zero l h = absurd (omega arith)
+take-within m (suc i) (suc n) [] h = refl
+take-within m (suc i) (suc n) (x ∷ l) h = take-within m i n l (omega arith)
+
+pub part-within : (l : List ℕ) (a n i m : ℕ) → i + m ≤ n → take m (drop i (take n (drop a l))) ≡ take m (drop (a + i) l)
+part-within l a n i m h = take-within m i n (drop a l) h ∙ ap (take m) (drop-drop i a l)
 
 pub upto : (a n : ℕ) → a + n - a ≡ n
 upto a n = omega arith

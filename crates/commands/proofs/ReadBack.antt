@@ -7,8 +7,8 @@ use Prim.Native.Nat.{ℕ, _+_, _-_, _^_, _≤_}
 use native.Mathlib.Nat.{zero-add}
 use native.Mathlib.Omega.{arith}
 use lib.Dec.{eqb, ltb}
-use lib.ListN.{length, take, drop, take-append-drop, length-append, length-drop}
-use lib.Seq.{take-append-le, drop-append-le, drop-drop, take-at, drop-at}
+use lib.ListN.{length, take, drop, length-append, length-take}
+use lib.Seq.{drop-drop, take-at, drop-at}
 use borrow.Author.Tests.{ltb-true, ltb-false, le-ltb, eqb-true, not-false}
 use Rattle.octets.proofs.Choices.{both-parts, choose}
 use Rattle.octets.proofs.Numbers.{least-spelled}
@@ -43,7 +43,7 @@ use Rattle.commands.specs.Reading.{Judgement, sound, judge, commandIn, r
 use Rattle.commands.specs.Parts.{octetsAt, keyIn, hashIn, keySpan, hashSpan, restSpan, tlvsIn, innerIn, tlvsSpan, innerSpan, within, valueSpan}
 use Rattle.commands.specs.Writing.{commandControl, ownOctets, frameOf, whole, apsRaised, writeCommand}
 use Rattle.commands.specs.Reverse.{ranged, asKey, asHash, asTlvs, asInner, valueIn, GivesBack}
-use Rattle.commands.proofs.Bounds.{part-rest}
+use Rattle.commands.proofs.Bounds.{part-rest, part-within}
 use Rattle.commands.proofs.Judging.{judge-sound}
 use Rattle.commands.proofs.Laid.{own-length, whole-secret, whole-rest}
 use Rattle.commands.specs.declared.Kind.the-variants as kinds
@@ -229,20 +229,14 @@ module _ (f k : List ℕ) where
 
 -- ---- what follows
 
-part-in : (s t : List ℕ) (i n : ℕ) → i + n ≤ length s → take n (drop i (s ++ t)) ≡ take n (drop i s)
-part-in s t i n h = ap (take n) (drop-append-le i s t (omega arith)) ∙ take-append-le n (drop i s) t (rw (length-drop i s) (omega arith))
-
 -- a part of a part
 value-cut : (f : List ℕ) (q : Span) (x : Walked) → Inside (length (octetsAt f q)) x
     → octetsAt f (within (q .from) x) ≡ octetsAt (octetsAt f q) (within 0 x)
 value-cut f q walks.Ill h = refl
 value-cut f q walks.Absent h = refl
 value-cut f q (walks.At i n) h =
-    let l = drop (q .from) f in
-    ap (take n) (sym (drop-drop i (q .from) f))
-    ∙ ap (λ (s : List ℕ). take n (drop i s)) (sym (take-append-drop (q .count) l))
-    ∙ part-in (take (q .count) l) (drop (q .count) l) i n h
-    ∙ ap (λ (j : ℕ). take n (drop j (take (q .count) l))) (sym (zero-add i))
+    sym (part-within f (q .from) (q .count) i n (omega (arith, length-take (q .count) (drop (q .from) f))))
+    ∙ ap (λ (j : ℕ). take n (drop j (octetsAt f q))) (sym (zero-add i))
 
 module _ (f : List ℕ) (i : ℕ) (r : List ℕ) (e : drop i f ≡ r) where
   rest-cut : octetsAt f (restSpan (length f) i) ≡ r

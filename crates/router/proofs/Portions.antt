@@ -4,13 +4,13 @@
 use mathlib.Core.Path.{_≡_, refl, sym, ap, ap₂, subst, _∙_}
 use mathlib.Core.Bool.{false}
 use mathlib.Core.Logic.{_⊎_, inl, inr}
-use mathlib.Core.List.{List, [], _∷_, _++_}
+use mathlib.Core.List.{List, [], _++_}
 use denote.Ref.{RefT}
-use Prim.Native.Nat.{ℕ, zero, suc, _+_, _-_, _≤_}
+use Prim.Native.Nat.{ℕ, _+_, _≤_}
 use native.Mathlib.Omega.{arith}
 use lib.Dec.{eqb}
 use lib.ListN.{length, take, drop, length-drop}
-use lib.Seq.{length-take-le, take-take, take-add, drop-drop}
+use lib.Seq.{length-take-le, take-add, drop-drop}
 use borrow.Author.Tests.{eq-eqb, ne-eqb}
 use Rattle.settings.specs.Settings.{Settings, apsAux}
 use Rattle.octets.specs.Parts.{Part}
@@ -20,11 +20,11 @@ use Rattle.commands.specs.Table.{leastInner}
 use Rattle.commands.specs.Numbers.{CommandTold, untyped, typed}
 use Rattle.commands.specs.Reading.{ReadTold, judge}
 use Rattle.commands.specs.Parts.{octetsAt, cutAt, span, nowhere, innerSpan}
-use Rattle.commands.proofs.Bounds.{same-span}
+use Rattle.commands.proofs.Bounds.{part-within, same-span}
 use Rattle.commands.proofs.Inner.{idOf, inner-ways, inner-least, inner-within}
 use Rattle.router.specs.declared.Portion.{Portion}
 use Rattle.router.specs.declared.Portion.the-variants.{Whole, Header, Auxiliary, Payload, Tag}
-use Rattle.router.specs.Routing.{RouteTold, onward, halted, tunnelTo, routeOf, route, startOf, endOf, portionIn, portionSpan, handedOn, joined}
+use Rattle.router.specs.Routing.{RouteTold, onward, halted, tunnelTo, routeOf, route, sizeOf, startOf, portionIn, portionSpan, handedOn, joined}
 
 -- ---- what the router tells and what it hands on go together
 
@@ -44,57 +44,34 @@ route-inner z f p =
     inner-ways z f p (λ (r : ReadTold) (q : Span). Agree z (routeOf r) q) (λ n. refl)
     (λ c e. subst (λ (t : RouteTold). Agree z t nowhere) (sym (other-stops c e)) refl) (λ l. l)
 
--- ---- parts of parts
-
-take-within : (m i n : ℕ) (l : List ℕ) → i + m ≤ n → take m (drop i (take n l)) ≡ take m (drop i l)
-take-within m zero n l h = take-take m n l (omega arith)
-take-within m (suc i) zero l h = absurd (omega arith)
-take-within m (suc i) (suc n) [] h = refl
-take-within m (suc i) (suc n) (x ∷ l) h = take-within m i n l (omega arith)
-
-pub part-within : (l : List ℕ) (a n i m : ℕ) → i + m ≤ n → take m (drop i (take n (drop a l))) ≡ take m (drop (a + i) l)
-part-within l a n i m h = take-within m i n (drop a l) h ∙ ap (take m) (drop-drop i a l)
+-- ---- where a portion stands
 
 -- two parts, the second of which starts where the first one ends
 meet : (l : List ℕ) (a m n : ℕ) → take m (drop a l) ++ take n (drop (a + m) l) ≡ take (m + n) (drop a l)
 meet l a m n = ap (λ (s : List ℕ). take m (drop a l) ++ take n s) (sym (drop-drop m a l)) ∙ sym (take-add m n (drop a l))
 
--- ---- where a portion starts and ends
-
 module _ (z : Settings) (n : ℕ) (h : leastInner z ≤ n) where
-  pub start-end : (w : Portion) → startOf z w n ≤ endOf z w n
-  start-end Whole = omega arith
-  start-end Header = omega arith
-  start-end Auxiliary = omega arith
-  start-end Payload = omega arith
-  start-end Tag = omega arith
-
-  pub end-within : (w : Portion) → endOf z w n ≤ n
-  end-within Whole = omega arith
-  end-within Header = omega arith
-  end-within Auxiliary = omega arith
-  end-within Payload = omega arith
-  end-within Tag = omega arith
+  pub within : (w : Portion) → startOf z w n + sizeOf z w n ≤ n
+  within Whole = omega arith
+  within Header = omega arith
+  within Auxiliary = omega arith
+  within Payload = omega arith
+  within Tag = omega arith
 
   -- header, auxiliary header, payload and tag of the n octets from place a on
-  abbrev behind : ℕ
-  behind = 2 + apsAux
-
   four : (l : List ℕ) (a : ℕ)
-      → take 2 (drop (a + 0) l) ++ take (behind - 2) (drop (a + 2) l) ++ take (n - z .tag - behind) (drop (a + behind) l)
-      ++ take (n - (n - z .tag)) (drop (a + (n - z .tag)) l)
+      → take 2 (drop (a + 0) l) ++ take apsAux (drop (a + 2) l) ++ take (sizeOf z Payload n) (drop (a + (2 + apsAux)) l)
+      ++ take (z .tag) (drop (a + (2 + apsAux + sizeOf z Payload n)) l)
       ≡ take n (drop a l)
   four l a =
-      let b = n - z .tag - behind in
+      let b = sizeOf z Payload n in
       let first : a + 0 ≡ a = omega arith in
-      let middle : a + (n - z .tag) ≡ a + (behind + b) = omega arith in
-      let last : n - (n - z .tag) ≡ z .tag = omega arith in
-      let whole : behind + b + z .tag ≡ n = omega arith in
-      ap (λ (i : ℕ). take 2 (drop i l) ++ take apsAux (drop (a + 2) l) ++ take b (drop (a + behind) l)
-      ++ take (n - (n - z .tag)) (drop (a + (n - z .tag)) l)) first
-      ∙ ap₂ (λ (s : List ℕ) (i : ℕ). s ++ take b (drop (a + behind) l) ++ take (n - (n - z .tag)) (drop i l)) (meet l a 2 apsAux) middle
-      ∙ ap₂ (λ (s : List ℕ) (m : ℕ). s ++ take m (drop (a + (behind + b)) l)) (meet l a behind b) last
-      ∙ meet l a (behind + b) (z .tag)
+      let whole : 2 + apsAux + b + z .tag ≡ n = omega arith in
+      ap (λ (i : ℕ). take 2 (drop i l) ++ take apsAux (drop (a + 2) l) ++ take b (drop (a + (2 + apsAux)) l)
+      ++ take (z .tag) (drop (a + (2 + apsAux + b)) l)) first
+      ∙ ap (λ (s : List ℕ). s ++ take b (drop (a + (2 + apsAux)) l) ++ take (z .tag) (drop (a + (2 + apsAux + b)) l)) (meet l a 2 apsAux)
+      ∙ ap (λ (s : List ℕ). s ++ take (z .tag) (drop (a + (2 + apsAux + b)) l)) (meet l a (2 + apsAux) b)
+      ∙ meet l a (2 + apsAux + b) (z .tag)
       ∙ ap (λ (m : ℕ). take m (drop a l)) whole
 
 -- ---- the inner frame of a frame f that came under p
@@ -125,7 +102,7 @@ module _ (z : Settings) (f : List ℕ) (p : ProtectionTold) where
         go (inr l) = l
 
     pub some-on : (w : Portion)
-        → portionSpan z w f p ≡ span (q .from + startOf z w (q .count)) (endOf z w (q .count) - startOf z w (q .count))
+        → portionSpan z w f p ≡ span (q .from + startOf z w (q .count)) (sizeOf z w (q .count))
     unfolding portionSpan portionIn
     some-on w = simp (ne-eqb (q .count) 0 some)
 
@@ -137,7 +114,7 @@ module _ (z : Settings) (f : List ℕ) (p : ProtectionTold) where
     where
       go : (q ≡ nowhere) ⊎ (leastInner z ≤ q .count) → portionSpan z Whole f p ≡ q
       go (inl d) = none-on Whole (ap (λ (x : Span). x .count) d)
-      go (inr l) = some-on (λ e. omega arith) Whole ∙ same-span (omega arith) (omega arith)
+      go (inr l) = some-on (λ e. omega arith) Whole ∙ same-span (omega arith) refl
 
   pub whole-on : handedOn z Whole f p ≡ octetsAt f q
   whole-on = ap (octetsAt f) whole-span
@@ -190,17 +167,16 @@ module _ (z : Settings) (f : List ℕ) (p : ProtectionTold) where
       long-enough = omega (arith, same-count, some-least z f p (λ d. some (same-count ∙ d)))
 
       pub its-span : (w : Portion)
-          → portionSpan z w f p ≡ span (q z f p .from + startOf z w (length m)) (endOf z w (length m) - startOf z w (length m))
+          → portionSpan z w f p ≡ span (q z f p .from + startOf z w (length m)) (sizeOf z w (length m))
       its-span w =
           some-on z f p (λ d. some (same-count ∙ d)) w
-          ∙ ap (λ (n : ℕ). span (q z f p .from + startOf z w n) (endOf z w n - startOf z w n)) (sym same-count)
+          ∙ ap (λ (n : ℕ). span (q z f p .from + startOf z w n) (sizeOf z w n)) (sym same-count)
 
-      pub its-octets : (w : Portion) (n i : ℕ) → i ≡ startOf z w (length m) → n ≡ endOf z w (length m) - i
+      pub its-octets : (w : Portion) (n i : ℕ) → i ≡ startOf z w (length m) → n ≡ sizeOf z w (length m)
           → take n (drop i m) ≡ handedOn z w f p
       its-octets w n i s t =
-          let h = start-end z (length m) long-enough w in
-          let k = end-within z (length m) long-enough w in
+          let h = within z (length m) long-enough w in
           ap (λ (l : List ℕ). take n (drop i l)) e
           ∙ part-within f (q z f p .from) (q z f p .count) i n (omega (arith, same-count))
-          ∙ ap₂ (λ (x y : ℕ). take x (drop (q z f p .from + y) f)) (t ∙ ap (λ (y : ℕ). endOf z w (length m) - y) s) s
+          ∙ ap₂ (λ (x y : ℕ). take x (drop (q z f p .from + y) f)) t s
           ∙ ap (octetsAt f) (sym (its-span w))

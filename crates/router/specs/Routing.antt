@@ -45,27 +45,27 @@ route z f p = routeOf (readCommand z f p)
 
 -- ---- what is handed on
 
--- where a portion of an inner frame of n octets starts, and where it ends: header, auxiliary header, payload and tag stand one
--- behind another
+-- Figure 4-17 of source document 000: "Octets: 2, 13, Variable, 4" for "Tunneled APS header", "Tunneled auxiliary frame",
+-- "Tunneled command", "Tunneled APS MIC", of an inner frame of n octets
+abbrev pub sizeOf : Settings → Portion → ℕ → ℕ
+sizeOf z Whole n = n
+sizeOf z Header n = 2
+sizeOf z Auxiliary n = apsAux
+sizeOf z Payload n = n - (2 + apsAux + z .tag)
+sizeOf z Tag n = z .tag
+
+-- each stands behind those before it
 abbrev pub startOf : Settings → Portion → ℕ → ℕ
 startOf z Whole n = 0
 startOf z Header n = 0
-startOf z Auxiliary n = 2
-startOf z Payload n = 2 + apsAux
-startOf z Tag n = n - z .tag
-
-abbrev pub endOf : Settings → Portion → ℕ → ℕ
-endOf z Whole n = n
-endOf z Header n = 2
-endOf z Auxiliary n = 2 + apsAux
-endOf z Payload n = n - z .tag
-endOf z Tag n = n
+startOf z Auxiliary n = sizeOf z Header n
+startOf z Payload n = sizeOf z Header n + sizeOf z Auxiliary n
+startOf z Tag n = sizeOf z Header n + sizeOf z Auxiliary n + sizeOf z Payload n
 
 -- the span of a portion of the inner frame whose own span is q: "empty if refused or missing"
 unfoldable pub portionIn : Settings → Portion → Span → Span
 portionIn z w q =
-    if eqb (q .count) 0 then nowhere
-    else span (q .from + startOf z w (q .count)) (endOf z w (q .count) - startOf z w (q .count))
+    if eqb (q .count) 0 then nowhere else span (q .from + startOf z w (q .count)) (sizeOf z w (q .count))
 
 -- its span in the frame f that came under p
 unfoldable pub portionSpan : Settings → Portion → List ℕ → ProtectionTold → Span

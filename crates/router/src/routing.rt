@@ -7,14 +7,14 @@ use answers::Refusal;
 use commands::Command;
 use commands::Reading;
 ghost use mathlib.Core.Path.{_≡_};
-ghost use Prim.Native.Nat.{_≤_};
+ghost use Prim.Native.Nat.{_+_, _≤_};
 ghost use Rattle.octets.specs.Parts.{seen};
 ghost use Rattle.settings.specs.Settings.{ours};
 ghost use Rattle.answers.specs.Numbers.{protectionOf};
 ghost use Rattle.commands.specs.Numbers.{toldCommand};
 ghost use Rattle.commands.specs.Parts.{cutAt};
 ghost use Rattle.commands.specs.Table.{leastInner};
-ghost use Rattle.router.specs.Routing.{toldRouted, tunnelTo, route as Routing·route, startOf, endOf, portionSpan};
+ghost use Rattle.router.specs.Routing.{toldRouted, tunnelTo, route as Routing·route, startOf, sizeOf, portionSpan};
 
 // The octets of the inner header: an inner frame is a command.
 const HEADER: usize = 2;
@@ -63,7 +63,7 @@ fn start_of(portion: Portion, n: usize) -> usize
 
 fn end_of(portion: Portion, n: usize) -> usize
     requires { ⌜ leastInner ours ≤ n ⌝ }
-    ensures { λ r. ⌜ r ≡ endOf ours portion n ⌝ }
+    ensures { λ r. ⌜ r ≡ startOf ours portion n + sizeOf ours portion n ⌝ }
 {
     match portion {
         Portion::Whole => n,

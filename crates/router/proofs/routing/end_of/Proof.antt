@@ -1,4 +1,5 @@
--- Each arm is the definition's.
+-- Each arm is the definition's, worked out where an inner frame of n octets has them all.
+use native.Mathlib.Omega.{arith}
 use borrow.Author.Needs.{needs}
 use Rattle.router.proofs.routing.end_of.Statement.{statement}
 use Rattle.router.proofs.routing.end_of.Tie as tie
@@ -25,7 +26,7 @@ enum-told-5 : tie.Need-enum-told-5
 enum-told-5 c = search needs
 
 returns : tie.Need-returns
-returns c = simp (c .enum-told .given .1)
+returns c = simp (c .enum-told .given .1) (omega arith)
 
 returns-2 : tie.Need-returns-2
 returns-2 c = simp (c .enum-told2 .given .1)
@@ -34,10 +35,10 @@ returns-3 : tie.Need-returns-3
 returns-3 c = simp (c .enum-told3 .given .1)
 
 returns-4 : tie.Need-returns-4
-returns-4 c = simp (c .enum-told4 .given .1)
+returns-4 c = simp (c .enum-told4 .given .1) (omega arith)
 
 returns-5 : tie.Need-returns-5
-returns-5 c = simp (c .enum-told5 .given .1)
+returns-5 c = simp (c .enum-told5 .given .1) (omega arith)
 
 pub end-of-spec : {M : Type 1} → statement M
 end-of-spec =

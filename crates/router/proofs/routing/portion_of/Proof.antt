@@ -11,7 +11,7 @@ use Rattle.answers.specs.Numbers.{protectionOf}
 use Rattle.commands.specs.declared.Span.{Span}
 use Rattle.commands.specs.Reading.{judge}
 use Rattle.commands.specs.Parts.{octetsAt, cutAt, innerSpan}
-use Rattle.router.proofs.Portions.{none-on, start-end, end-within, same-count, long-enough, its-span, its-octets}
+use Rattle.router.proofs.Portions.{none-on, within, same-count, long-enough, its-span, its-octets}
 use Rattle.router.proofs.routing.portion_of.Statement.{statement}
 use Rattle.router.proofs.routing.portion_of.Tie as tie
 
@@ -51,9 +51,8 @@ bounds c =
     let inner : tie.After-inner-of = search in
     let n = length (inner .inner-of .result .now) in
     let h = long-enough ours (start .args .frame .now) (protectionOf (start .args .protection)) _ (found (search)) (else1 .if1 .left) in
-    let a = start-end ours n h (start .args .portion) in
-    let b = end-within ours n h (start .args .portion) in
-    (omega (arith, a, c .end-of .ensures, c .before .start-of .ensures), omega (arith, b, c .end-of .ensures))
+    let b = within ours n h (start .args .portion) in
+    (omega (arith, c .end-of .ensures, c .before .start-of .ensures), omega (arith, b, c .end-of .ensures))
 
 sub-result : tie.Need-sub-result
 sub-result c = let b = bounds c in omega (arith, b .0)
@@ -80,7 +79,7 @@ returns-2 c =
     (omega (arith, ap (λ (x : Part). x .offset) e, ap (λ (x : Span). x .from) s, after-start-of .start-of .ensures))
     (its-octets ours f p m (found (search)) (else1 .if1 .left) (start .args .portion)
     (after-end-of .end-of .result - after-start-of .start-of .result) _ (after-start-of .start-of .ensures)
-    (ap (λ (n : ℕ). n - after-start-of .start-of .result) (after-end-of .end-of .ensures)))
+    (omega (arith, after-end-of .end-of .ensures, after-start-of .start-of .ensures)))
 
 pub portion-of-spec : {M : Type 1} → statement M
 portion-of-spec =

@@ -1,4 +1,5 @@
--- Each arm is the definition's.
+-- Each arm is the definition's, worked out where an inner frame of n octets has them all.
+use native.Mathlib.Omega.{arith}
 use borrow.Author.Needs.{needs}
 use Rattle.router.proofs.routing.start_of.Statement.{statement}
 use Rattle.router.proofs.routing.start_of.Tie as tie
@@ -37,7 +38,7 @@ returns-4 : tie.Need-returns-4
 returns-4 c = simp (c .enum-told4 .given .1)
 
 returns-5 : tie.Need-returns-5
-returns-5 c = simp (c .enum-told5 .given .1)
+returns-5 c = simp (c .enum-told5 .given .1) (omega arith)
 
 pub start-of-spec : {M : Type 1} → statement M
 start-of-spec =
