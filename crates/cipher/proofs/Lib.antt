@@ -1,5 +1,7 @@
 pub mod Table
 pub mod Rounds
+pub mod Lanes
+pub mod Mixing
 pub mod Parsed
 pub mod Chains
 pub mod Streams

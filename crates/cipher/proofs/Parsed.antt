@@ -1,15 +1,19 @@
 -- A string parsed into blocks of 16 is the block at its start and the blocks of what is behind it; an empty one has none.
 -- Assumes nothing.
 use mathlib.Core.Path.{_≡_, refl, sym, ap, ap₂, _∙_}
+use mathlib.Core.Bool.{Bool, true, false}
 use mathlib.Core.List.{List, [], _∷_}
-use Prim.Native.Nat.{ℕ, suc, _+_, _-_, _*_, _≤_, _<_}
+use Prim.Native.Nat.{ℕ, suc, _+_, _-_, _*_, _≤_, _<_, min}
 use native.Mathlib.Nat.{add-assoc, add-zero}
 use native.Mathlib.Omega.{arith}
-use lib.ListN.{length, drop, length-drop, drop-of-length-le}
-use lib.Seq.{getD-drop, drop-drop}
-use Rattle.octets.proofs.Tabs.{tab-ext, getD-tab}
-use Rattle.octets.specs.Lists.{at, tab}
-use Rattle.cipher.specs.Blocks.{blockFrom, blockCount, blocks}
+use lib.Dec.{ltb}
+use lib.ListN.{length, take, drop, length-take, length-drop, drop-of-length-le, List·getD-eq-default}
+use lib.Seq.{getD-take, getD-drop, drop-drop}
+use borrow.Author.Tests.{ltb-true, ltb-false}
+use Rattle.octets.proofs.Pasted.{pasted-onto}
+use Rattle.octets.proofs.Tabs.{tab-ext, getD-tab, onto-zeros}
+use Rattle.octets.specs.Lists.{at, tab, pasted}
+use Rattle.cipher.specs.Blocks.{blockFrom, blockCount, blocks, zeroBlock}
 
 pub block-at : (d : List ℕ) (i j : ℕ) → j < 16 → at (blockFrom d i) j ≡ at d (i + j)
 unfolding blockFrom
@@ -20,6 +24,25 @@ unfolding blockFrom
 block-drop d n i =
     tab-ext 16 (λ j. at (drop n d) (i + j)) (λ j. at d (n + i + j))
     (λ j h. getD-drop n d (i + j) 0 ∙ ap (at d) (sym (add-assoc n i j)))
+
+-- the first m octets from place i on, laid onto zeros, where m is 16 or all that there are
+pub block-laid : (l d : List ℕ) (i m : ℕ) → l ≡ pasted zeroBlock 0 (take m (drop i d)) → m ≤ 16 → min 16 (length d - i) ≤ m
+    → l ≡ blockFrom d i
+unfolding blockFrom
+block-laid l d i m e h k =
+    pasted-onto l zeroBlock p e short ∙ onto-zeros 16 p short ∙ tab-ext 16 (at p) (λ j. at d (i + j)) (λ j b. octet j b (ltb j m) refl)
+  where
+    p : List ℕ
+    p = take m (drop i d)
+
+    short : length p ≤ 16
+    short = rw (length-take m (drop i d)) (omega arith)
+
+    octet : (j : ℕ) → j < 16 → (t : Bool) → ltb j m ≡ t → at p j ≡ at d (i + j)
+    octet j b true g = getD-take m (drop i d) j 0 (ltb-true j m g) ∙ getD-drop i d j 0
+    octet j b false g =
+        List·getD-eq-default p 0 (rw (length-take m (drop i d)) (omega (arith, ltb-false j m g)))
+        ∙ sym (List·getD-eq-default d 0 (omega (arith, ltb-false j m g)))
 
 pub blocks-none : blocks [] ≡ []
 unfolding blocks

@@ -4,7 +4,13 @@
 use mathlib.Core.List.{List, _∷_, _++_}
 use Prim.Native.Nat.{ℕ, _+_, _-_, _*_, _%_}
 use lib.ListN.{length, replicate}
+use Rattle.octets.specs.Lists.{at, tab}
+use Rattle.cipher.specs.Aes.{mixed, below}
 use Rattle.cipher.specs.Blocks.{twoOctets}
+
+-- `mixColumns` of one column, of four octets
+abbrev pub mixedColumn : List ℕ → List ℕ
+mixedColumn t = tab 4 (λ j. mixed (at t j) (below t j 1) (below t j 2) (below t j 3))
 
 -- the octets d with the padding of a string of which b octets, a multiple of 16, went before d
 unfoldable pub paddedAfter : ℕ → List ℕ → List ℕ

@@ -1,9 +1,16 @@
-// AES-128, as FIPS 197 has it: its names, its order.
+// AES-128, as FIPS 197 has it: its names, its order. A state is 16 octets; its columns are mixed, and
+// round keys added and made, as words, which measured best (measure/README.md).
+use crate::words::block_of;
+use crate::words::doubled;
+use crate::words::rot_word;
+use crate::words::word;
+use crate::words::word_of;
 ghost use mathlib.Core.Path.{_≡_};
-ghost use Prim.Native.Nat.{_%_, _*_};
-ghost use Rattle.cipher.specs.Field.{xtime, mul};
+ghost use Rattle.octets.specs.Lists.{tab};
+ghost use Rattle.octets.specs.Least.{spelled};
 ghost use Rattle.cipher.specs.Sbox.{sbox, sboxTable};
-ghost use Rattle.cipher.specs.Aes.{subBytes, shiftRows, mixed, mixColumns, addBlocks, addRoundKey, roundOf, lastRound, cipher, turnedWord, spread, nextKey, keyExpansion};
+ghost use Rattle.cipher.specs.Aes.{subBytes, shiftRows, mixColumns, addBlocks, addRoundKey, roundOf, lastRound, cipher, rcon, turnedWord, spread, nextKey, keyExpansion};
+ghost use Rattle.cipher.specs.Code.{mixedColumn};
 
 // FIPS 197, figure 7.
 const SBOX: [u8; 256] = [
@@ -265,11 +272,21 @@ const SBOX: [u8; 256] = [
     22,
 ];
 
+// FIPS 197, 5.2: the first octets of Rcon[1] to Rcon[10], each the double of the one before.
+const RCON: [u8; 10] = [1, 2, 4, 8, 16, 32, 64, 128, 27, 54];
+
 // The S-box, to be lent downward.
 pub(crate) fn table() -> [u8; 256]
     ensures { λ r. ⌜ r ≡ sboxTable ⌝ }
 {
     SBOX
+}
+
+// The round constants, to be lent downward.
+pub(crate) fn round_constants() -> [u8; 10]
+    ensures { λ r. ⌜ r ≡ tab 10 rcon ⌝ }
+{
+    RCON
 }
 
 fn sub_byte(sb: &[u8; 256], x: u8) -> u8
@@ -313,78 +330,36 @@ fn shift_rows(s: [u8; 16]) -> [u8; 16]
     ]
 }
 
-// Multiplication by {02}.
-fn doubled(a: u8) -> u8
-    ensures { λ r. ⌜ r ≡ xtime a ⌝ }
+// A column (5.1.3). {02} of a row and {03} of the next are the double of their sum and the next once
+// more; the sum of the other two is that sum, two rows on.
+fn mix_column(w: u32) -> u32
+    ensures { λ r. ⌜ spelled 4 r ≡ mixedColumn (spelled 4 w) ⌝ }
 {
-    (a % 128 * 2) ^ (a / 128 * 27)
-}
-
-// The term of a product that the lowest bit of b stands for.
-fn term(a: u8, b: u8) -> u8
-    ensures { λ r. ⌜ r ≡ b % 2 * a ⌝ }
-{
-    b % 2 * a
-}
-
-// Multiplication in GF(2^8).
-fn times(a: u8, b: u8) -> u8
-    ensures { λ r. ⌜ r ≡ mul a b ⌝ }
-{
-    let mut sum = 0u8;
-    let mut x = a;
-    let mut y = b;
-    for i in 0..8usize {
-        sum = sum ^ term(x, y);
-        x = doubled(x);
-        y = y / 2;
-    }
-    sum
-}
-
-fn mix(a: u8, b: u8, c: u8, d: u8) -> u8
-    ensures { λ r. ⌜ r ≡ mixed a b c d ⌝ }
-{
-    times(2, a) ^ times(3, b) ^ c ^ d
+    let next = rot_word(w);
+    let sum = w ^ next;
+    doubled(sum) ^ next ^ rot_word(rot_word(sum))
 }
 
 fn mix_columns(s: [u8; 16]) -> [u8; 16]
     ensures { λ r. ⌜ r ≡ mixColumns s ⌝ }
 {
-    let mut t = [0u8; 16];
-    for i in 0..16 {
-        let top = i / 4 * 4;
-        t[i] = mix(
-            s[i],
-            s[top + (i + 1) % 4],
-            s[top + (i + 2) % 4],
-            s[top + (i + 3) % 4],
-        );
-    }
-    t
+    block_of(
+        mix_column(word(s, 0)),
+        mix_column(word(s, 1)),
+        mix_column(word(s, 2)),
+        mix_column(word(s, 3)),
+    )
 }
 
 pub(crate) fn add_blocks(a: [u8; 16], b: [u8; 16]) -> [u8; 16]
     ensures { λ r. ⌜ r ≡ addBlocks a b ⌝ }
 {
-    [
-        a[0] ^ b[0],
-        a[1] ^ b[1],
-        a[2] ^ b[2],
-        a[3] ^ b[3],
-        a[4] ^ b[4],
-        a[5] ^ b[5],
-        a[6] ^ b[6],
-        a[7] ^ b[7],
-        a[8] ^ b[8],
-        a[9] ^ b[9],
-        a[10] ^ b[10],
-        a[11] ^ b[11],
-        a[12] ^ b[12],
-        a[13] ^ b[13],
-        a[14] ^ b[14],
-        a[15] ^ b[15],
-    ]
+    block_of(
+        word(a, 0) ^ word(b, 0),
+        word(a, 1) ^ word(b, 1),
+        word(a, 2) ^ word(b, 2),
+        word(a, 3) ^ word(b, 3),
+    )
 }
 
 fn add_round_key(s: [u8; 16], k: [u8; 16]) -> [u8; 16]
@@ -424,54 +399,25 @@ pub(crate) fn encipher(sb: &[u8; 256], w: &[[u8; 16]; 11], block: [u8; 16]) -> [
 }
 
 // SubWord(RotWord(w[i - 1])) + Rcon.
-fn turned_word(sb: &[u8; 256], c: u8, k: [u8; 16]) -> [u8; 4]
+fn turned_word(sb: &[u8; 256], c: u8, k: [u8; 16]) -> u32
     requires { ⌜ now sb ≡ sboxTable ⌝ }
-    ensures { λ r. ⌜ r ≡ turnedWord c k ⌝ }
+    ensures { λ r. ⌜ spelled 4 r ≡ turnedWord c k ⌝ }
 {
     let x = sub_byte(sb, k[13]);
     let y = sub_byte(sb, k[14]);
     let z = sub_byte(sb, k[15]);
     let v = sub_byte(sb, k[12]);
-    [x ^ c, y, z, v]
+    word_of(x ^ c, y, z, v)
 }
 
-fn spread_word(k: [u8; 16], t: [u8; 4]) -> [u8; 16]
-    ensures { λ r. ⌜ r ≡ spread k t ⌝ }
+fn spread_word(k: [u8; 16], t: u32) -> [u8; 16]
+    ensures { λ r. ⌜ r ≡ spread k (spelled 4 t) ⌝ }
 {
-    let k0 = k[0] ^ t[0];
-    let k1 = k[1] ^ t[1];
-    let k2 = k[2] ^ t[2];
-    let k3 = k[3] ^ t[3];
-    let k4 = k[4] ^ k0;
-    let k5 = k[5] ^ k1;
-    let k6 = k[6] ^ k2;
-    let k7 = k[7] ^ k3;
-    let k8 = k[8] ^ k4;
-    let k9 = k[9] ^ k5;
-    let k10 = k[10] ^ k6;
-    let k11 = k[11] ^ k7;
-    let k12 = k[12] ^ k8;
-    let k13 = k[13] ^ k9;
-    let k14 = k[14] ^ k10;
-    let k15 = k[15] ^ k11;
-    [
-        k0,
-        k1,
-        k2,
-        k3,
-        k4,
-        k5,
-        k6,
-        k7,
-        k8,
-        k9,
-        k10,
-        k11,
-        k12,
-        k13,
-        k14,
-        k15,
-    ]
+    let a = word(k, 0) ^ t;
+    let b = word(k, 1) ^ a;
+    let c = word(k, 2) ^ b;
+    let d = word(k, 3) ^ c;
+    block_of(a, b, c, d)
 }
 
 fn next_key(sb: &[u8; 256], c: u8, k: [u8; 16]) -> [u8; 16]
@@ -483,18 +429,17 @@ fn next_key(sb: &[u8; 256], c: u8, k: [u8; 16]) -> [u8; 16]
 }
 
 // The eleven round keys of a key.
-pub(crate) fn expand(sb: &[u8; 256], key: [u8; 16]) -> [[u8; 16]; 11]
+pub(crate) fn expand(sb: &[u8; 256], rc: &[u8; 10], key: [u8; 16]) -> [[u8; 16]; 11]
     requires { ⌜ now sb ≡ sboxTable ⌝ }
+    requires { ⌜ now rc ≡ tab 10 rcon ⌝ }
     ensures { λ r. ⌜ r ≡ keyExpansion key ⌝ }
 {
     let mut w = [key; 11];
     let mut k = key;
-    let mut c = 1u8;
     for i in 0..10 {
-        let next = next_key(sb, c, k);
+        let next = next_key(sb, rc[i], k);
         k = next;
         w[i + 1] = next;
-        c = doubled(c);
     }
     w
 }

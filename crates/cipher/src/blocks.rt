@@ -1,47 +1,26 @@
-// Octet strings, a block of 16 at a time: whole ones by a loop of fixed length, the last one padded
+// Octet strings, a block of 16 at a time: whole ones by a copy of fixed length, the last one padded
 // with zeros.
 ghost use mathlib.Core.Path.{_≡_};
-ghost use Prim.Native.Nat.{_+_, _≤_, _<_, _^_, min};
+ghost use Prim.Native.Nat.{_+_, _≤_, min};
 ghost use lib.ListN.{length};
 ghost use lib.Seq.{paste};
-ghost use Rattle.octets.specs.Lists.{at};
 ghost use Rattle.cipher.specs.Blocks.{blockFrom};
-
-fn whole_block(d: &[u8], i: usize) -> [u8; 16]
-    requires { ⌜ i + 16 ≤ length (now d) ⌝ }
-    ensures { λ r. ⌜ r ≡ blockFrom (now (d .entry)) i ⌝ }
-{
-    let mut t = [0u8; 16];
-    for j in 0..16 {
-        t[j] = d[i + j];
-    }
-    t
-}
-
-fn padded_block(d: &[u8], i: usize) -> [u8; 16]
-    requires { ⌜ i < 2 ^ 63 ⌝ }
-    ensures { λ r. ⌜ r ≡ blockFrom (now (d .entry)) i ⌝ }
-{
-    let mut t = [0u8; 16];
-    for j in 0..16 {
-        t[j] = octets::octet(d, i + j);
-    }
-    t
-}
 
 // The block that starts at place i.
 pub(crate) fn block_from(d: &[u8], i: usize) -> [u8; 16]
-    requires { ⌜ i < 2 ^ 63 ⌝ }
+    requires { ⌜ i ≤ length (now d) ⌝ }
     ensures { λ r. ⌜ r ≡ blockFrom (now (d .entry)) i ⌝ }
 {
-    if i + 16 <= d.len() {
-        whole_block(d, i)
+    let mut t = [0u8; 16];
+    if 16 <= d.len() - i {
+        octets::paste_at(&mut t, 0, &d[i..i + 16]);
     } else {
-        padded_block(d, i)
+        octets::paste_at(&mut t, 0, &d[i..]);
     }
+    t
 }
 
-// The first n octets of a block laid into out at place i: a copy of fixed length where it is whole.
+// The first n octets of a block laid into out at place i.
 pub(crate) fn put_block(out: &mut [u8], i: usize, b: [u8; 16], n: usize)
     requires { ⌜ (i + n ≤ length (now out)) × (n ≤ 16) ⌝ }
     ensures { λ _. ⌜ now (out .exit) ≡ paste (now (out .entry)) i b n ⌝ }

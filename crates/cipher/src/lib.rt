@@ -1,11 +1,13 @@
 // AES-128, CCM*, AES-MMO and the keyed hash: what the frame work above knows by its promises alone.
 //
-// Every routine here answers every input. The S-box is made once a call and lent downward, since a
-// constant that is used in place is rebuilt on the stack at each use; a key is expanded once.
+// Every routine here answers every input. The S-box and the round constants are made once a call and
+// lent downward, since a constant that is used in place is rebuilt on the stack at each use; a key is
+// expanded once.
 mod aes;
 mod blocks;
 mod ccm;
 mod mmo;
+mod words;
 
 ghost use mathlib.Core.Path.{_≡_};
 ghost use Rattle.cipher.specs.Aes.{aes128};
@@ -37,7 +39,8 @@ pub fn aes128_block(key: [u8; 16], block: [u8; 16]) -> [u8; 16]
     ensures { λ r. ⌜ r ≡ aes128 key block ⌝ }
 {
     let sbox = aes::table();
-    let keys = aes::expand(&sbox, key);
+    let constants = aes::round_constants();
+    let keys = aes::expand(&sbox, &constants, key);
     aes::encipher(&sbox, &keys, block)
 }
 
@@ -67,7 +70,8 @@ pub fn seal(
         return Answer::Refused(Fault::Room);
     }
     let sbox = aes::table();
-    let keys = aes::expand(&sbox, key);
+    let constants = aes::round_constants();
+    let keys = aes::expand(&sbox, &constants, key);
     ccm::seal_with(&sbox, &keys, tag, nonce, authenticated, payload, out);
     Answer::Made(payload.len() + tag)
 }
@@ -102,7 +106,8 @@ pub fn unseal(
         return Answer::Refused(Fault::Room);
     }
     let sbox = aes::table();
-    let keys = aes::expand(&sbox, key);
+    let constants = aes::round_constants();
+    let keys = aes::expand(&sbox, &constants, key);
     ccm::open_with(&sbox, &keys, tag, nonce, authenticated, sealed, out)
 }
 
@@ -117,7 +122,8 @@ pub fn hash(input: &[u8]) -> Hashed
         };
     }
     let sbox = aes::table();
-    let octets = mmo::hash_from(&sbox, [0u8; 16], 0, input);
+    let constants = aes::round_constants();
+    let octets = mmo::hash_from(&sbox, &constants, [0u8; 16], 0, input);
     Hashed {
         answer: Answer::Made(16),
         octets,
@@ -135,7 +141,8 @@ pub fn keyed_hash(key: [u8; 16], input: &[u8]) -> Hashed
         };
     }
     let sbox = aes::table();
-    let octets = mmo::keyed_hash_of(&sbox, key, input);
+    let constants = aes::round_constants();
+    let octets = mmo::keyed_hash_of(&sbox, &constants, key, input);
     Hashed {
         answer: Answer::Made(16),
         octets,

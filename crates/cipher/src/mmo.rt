@@ -6,8 +6,9 @@ ghost use mathlib.Core.Path.{_≡_};
 ghost use mathlib.Core.List.{_++_};
 ghost use Prim.Native.Nat.{_≤_};
 ghost use lib.ListN.{length};
-ghost use Rattle.octets.specs.Lists.{at};
+ghost use Rattle.octets.specs.Lists.{at, tab};
 ghost use Rattle.cipher.specs.Sbox.{sboxTable};
+ghost use Rattle.cipher.specs.Aes.{rcon};
 ghost use Rattle.cipher.specs.Blocks.{blocks, blockFrom, over};
 ghost use Rattle.cipher.specs.Code.{paddedAfter};
 ghost use Rattle.cipher.specs.Hash.{hashedIn, hashOf, plusEach, keyedHash};
@@ -46,23 +47,25 @@ fn padded_block_from(d: &[u8], b: usize, i: usize) -> [u8; 16]
 }
 
 // E(Hash, M) + M.
-fn hash_in(sb: &[u8; 256], h: [u8; 16], b: [u8; 16]) -> [u8; 16]
+fn hash_in(sb: &[u8; 256], rc: &[u8; 10], h: [u8; 16], b: [u8; 16]) -> [u8; 16]
     requires { ⌜ now sb ≡ sboxTable ⌝ }
+    requires { ⌜ now rc ≡ tab 10 rcon ⌝ }
     ensures { λ r. ⌜ r ≡ hashedIn h b ⌝ }
 {
-    let w = expand(sb, h);
+    let w = expand(sb, rc, h);
     add_blocks(encipher(sb, &w, b), b)
 }
 
 // The hash from h on, over d, where b octets went before it.
-pub(crate) fn hash_from(sb: &[u8; 256], h: [u8; 16], b: usize, d: &[u8]) -> [u8; 16]
+pub(crate) fn hash_from(sb: &[u8; 256], rc: &[u8; 10], h: [u8; 16], b: usize, d: &[u8]) -> [u8; 16]
     requires { ⌜ (now sb ≡ sboxTable) × ((length (now d) ≤ 256) × (b ≤ 16)) ⌝ }
+    requires { ⌜ now rc ≡ tab 10 rcon ⌝ }
     ensures { λ r. ⌜ r ≡ over hashedIn h (blocks (paddedAfter b (now (d .entry)))) ⌝ }
 {
     let n = (d.len() + 18) / 16;
     let mut x = h;
     for i in 0..n {
-        let next = hash_in(sb, x, padded_block_from(d, b, 16 * i));
+        let next = hash_in(sb, rc, x, padded_block_from(d, b, 16 * i));
         x = next;
     }
     x
@@ -92,18 +95,20 @@ fn plus_each(k: [u8; 16], x: u8) -> [u8; 16]
 }
 
 // The hash of a key, each of its octets added to x, and then of d.
-fn hash_behind(sb: &[u8; 256], k: [u8; 16], x: u8, d: &[u8]) -> [u8; 16]
+fn hash_behind(sb: &[u8; 256], rc: &[u8; 10], k: [u8; 16], x: u8, d: &[u8]) -> [u8; 16]
     requires { ⌜ (now sb ≡ sboxTable) × (length (now d) ≤ 256) ⌝ }
+    requires { ⌜ now rc ≡ tab 10 rcon ⌝ }
     ensures { λ r. ⌜ r ≡ hashOf (plusEach k x ++ now (d .entry)) ⌝ }
 {
-    let h = hash_in(sb, [0u8; 16], plus_each(k, x));
-    hash_from(sb, h, 16, d)
+    let h = hash_in(sb, rc, [0u8; 16], plus_each(k, x));
+    hash_from(sb, rc, h, 16, d)
 }
 
-pub(crate) fn keyed_hash_of(sb: &[u8; 256], k: [u8; 16], d: &[u8]) -> [u8; 16]
+pub(crate) fn keyed_hash_of(sb: &[u8; 256], rc: &[u8; 10], k: [u8; 16], d: &[u8]) -> [u8; 16]
     requires { ⌜ (now sb ≡ sboxTable) × (length (now d) ≤ 256) ⌝ }
+    requires { ⌜ now rc ≡ tab 10 rcon ⌝ }
     ensures { λ r. ⌜ r ≡ keyedHash k (now (d .entry)) ⌝ }
 {
-    let inner = hash_behind(sb, k, 0x36, d);
-    hash_behind(sb, k, 0x5c, &inner)
+    let inner = hash_behind(sb, rc, k, 0x36, d);
+    hash_behind(sb, rc, k, 0x5c, &inner)
 }

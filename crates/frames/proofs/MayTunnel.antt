@@ -1,17 +1,16 @@
 -- The two controls that a frame inside a Tunnel may have. What sealing makes of a plain command that asks for no acknowledgement may
 -- stand there.
 -- Assumes nothing.
-use mathlib.Core.Path.{_≡_, refl, sym, ap, ap₂, _∙_}
+use mathlib.Core.Path.{_≡_, refl, ap, ap₂, _∙_}
 use mathlib.Core.Bool.{Bool, true, false}
 use mathlib.Core.List.{List, _++_}
 use Prim.Native.Nat.{ℕ, _+_, _%_, _<_}
 use native.Mathlib.Nat.{add-mul-mod-self-left}
 use native.Mathlib.Omega.{arith}
 use lib.Dec.{eqb}
-use lib.ListN.{getD}
 use lib.Seq.{getD-at}
 use borrow.Author.Tests.{ne-eqb}
-use Rattle.octets.proofs.Tabs.{getD-tab}
+use Rattle.octets.proofs.Tabs.{tab-agree}
 use Rattle.octets.specs.Choice.{if_then_else_, both}
 use Rattle.octets.specs.Lists.{at, tab, Octets}
 use Rattle.frames.specs.declared.Layer.the-variants.{Aps}
@@ -34,8 +33,7 @@ unfolding innerControl apsForm apsType delivery ackFormat apsSecured ackRequest
 tried = refl
 
 pub inner-controls : (c : ℕ) → c < 256 → innerControl c ≡ either c
-inner-controls c h =
-    sym (getD-tab 256 innerControl c false h) ∙ ap (λ (l : List Bool). getD l c false) tried ∙ getD-tab 256 either c false h
+inner-controls c h = tab-agree 256 innerControl either tried c h
 
 -- ---- as sealed
 

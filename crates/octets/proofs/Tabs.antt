@@ -2,12 +2,12 @@
 -- and a list from place i on, which a loop reads an octet at a time.
 -- Assumes nothing.
 use mathlib.Core.Path.{_≡_, refl, sym, ap, ap₂, _∙_}
-use mathlib.Core.List.{List, _∷_, _++_}
+use mathlib.Core.List.{List, [], _∷_, _++_}
 use Prim.Native.Nat.{ℕ, zero, suc, _+_, _-_, _≤_, _<_}
 use native.Mathlib.Nat.{le-of-suc-le-suc, not-suc-le-zero, zero-add, suc-add}
 use native.Mathlib.Numerals.{add-one}
 use native.Mathlib.Omega.{arith}
-use lib.ListN.{length, getD, take, drop, length-append, length-drop, List·getD-eq-default}
+use lib.ListN.{length, getD, take, drop, replicate, length-append, length-drop, List·getD-eq-default}
 use lib.Seq.{ext-getD, drop-drop, drop-cons, paste, take-at, drop-at}
 use Rattle.octets.specs.Lists.{at, tab, onto}
 
@@ -27,6 +27,10 @@ module _ {A : Type 0} where
   tab-ext (suc n) f g h =
       ap₂ (λ (x : A) (l : List A). x ∷ l) (h 0 (omega arith))
       (tab-ext n (λ i. f (suc i)) (λ i. g (suc i)) (λ i k. h (suc i) (omega arith)))
+
+  -- two lists that are the same have the same values
+  pub tab-agree : (n : ℕ) (f g : ℕ → A) → tab n f ≡ tab n g → (i : ℕ) → i < n → f i ≡ g i
+  tab-agree n f g e i h = sym (getD-tab n f i (f i) h) ∙ ap (λ (l : List A). getD l i (f i)) e ∙ getD-tab n g i (f i) h
 
   pub tab-add : (n m : ℕ) (f : ℕ → A) → tab (n + m) f ≡ tab n f ++ tab m (λ i. f (n + i))
   tab-add zero m f = rw (zero-add m) (tab-ext m f (λ i. f (0 + i)) (λ i h. rw (zero-add i)))
@@ -53,6 +57,13 @@ at-tab-out n f i h = List·getD-eq-default (tab n f) 0 (rw length-tab h)
 
 pub length-onto : (s o : List ℕ) → length s ≤ length o → length (onto s o) ≡ length o
 length-onto s o h = simp (length-append, length-drop) (omega arith)
+
+-- a list written at the start of zeros is its octets, and zeros behind them
+pub onto-zeros : (n : ℕ) (s : List ℕ) → length s ≤ n → onto s (replicate n 0) ≡ tab n (at s)
+onto-zeros zero [] h = refl
+onto-zeros zero (x ∷ s) h = absurd (not-suc-le-zero h)
+onto-zeros (suc n) [] h = ap (λ (l : List ℕ). 0 ∷ l) (onto-zeros n [] (omega arith))
+onto-zeros (suc n) (x ∷ s) h = ap (λ (l : List ℕ). x ∷ l) (onto-zeros n s (le-of-suc-le-suc h))
 
 -- what is left of a list from place i on is the octet there and what is left from the next place on
 pub drop-step : (l : List ℕ) (i : ℕ) → i < length l → drop i l ≡ getD l i 0 ∷ drop (i + 1) l

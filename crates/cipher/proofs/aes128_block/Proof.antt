@@ -7,6 +7,9 @@ use Rattle.cipher.proofs.aes128_block.Tie as tie
 table-requires : tie.Need-table-requires
 table-requires c κs = search needs
 
+round-constants-requires : tie.Need-round-constants-requires
+round-constants-requires c κs = search needs
+
 expand-requires : tie.Need-expand-requires
 expand-requires c κs = search needs
 
@@ -18,4 +21,4 @@ unfolding aes128
 returns c = cc
 
 pub aes128-block-spec : {M : Type 1} → statement M
-aes128-block-spec = tie.close (tie.spec table-requires expand-requires encipher-requires returns)
+aes128-block-spec = tie.close (tie.spec table-requires round-constants-requires expand-requires encipher-requires returns)

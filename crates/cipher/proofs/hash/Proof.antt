@@ -15,6 +15,9 @@ returns c = search tests
 table-requires : tie.Need-table-requires
 table-requires c κs = search needs
 
+round-constants-requires : tie.Need-round-constants-requires
+round-constants-requires c κs = search needs
+
 hash-from-requires : tie.Need-hash-from-requires
 hash-from-requires c κs = search needs
 
@@ -22,7 +25,8 @@ returns-2 : tie.Need-returns-2
 unfolding hashing hashOf
 returns-2 c =
     let start : tie.Start = search in
-    simp (le-leb _ _ (c .before .before .before .if1 .left), c .hash-from .ensures, pad-none (start .args .input .now))
+    let else1 : tie.Else1 = search in
+    simp (le-leb _ _ (else1 .if1 .left), c .hash-from .ensures, pad-none (start .args .input .now))
 
 pub hash-spec : {M : Type 1} → statement M
-hash-spec = tie.close (tie.spec returns table-requires hash-from-requires returns-2)
+hash-spec = tie.close (tie.spec returns table-requires round-constants-requires hash-from-requires returns-2)

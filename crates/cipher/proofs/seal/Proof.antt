@@ -48,6 +48,9 @@ returns-4 c =
 table-requires : tie.Need-table-requires
 table-requires c κs = search needs
 
+round-constants-requires : tie.Need-round-constants-requires
+round-constants-requires c κs = search needs
+
 expand-requires : tie.Need-expand-requires
 expand-requires c κs = search needs
 
@@ -59,8 +62,8 @@ seal-with-requires c κs =
     let else4 : tie.Else4 = search in
     (after-table .table .ensures, (h, else4 .if4 .left))
 
-add-t15 : tie.Need-add-t15
-add-t15 c =
+add-t16 : tie.Need-add-t16
+add-t16 c =
     let else1 : tie.Else1 = search in
     let h = tag-most _ (sym (else1 .before .tag-length .ensures) ∙ not-false _ (else1 .if1 .left)) in
     let else3 : tie.Else3 = search in
@@ -98,8 +101,9 @@ seal-spec =
     add-if4
     returns-4
     table-requires
+    round-constants-requires
     expand-requires
     seal-with-requires
-    add-t15
+    add-t16
     same-length
     returns-5)

@@ -64,6 +64,9 @@ returns-5 c =
 table-requires : tie.Need-table-requires
 table-requires c κs = search needs
 
+round-constants-requires : tie.Need-round-constants-requires
+round-constants-requires c κs = search needs
+
 expand-requires : tie.Need-expand-requires
 expand-requires c κs = search needs
 
@@ -113,6 +116,7 @@ unseal-spec =
     sub-if5
     returns-5
     table-requires
+    round-constants-requires
     expand-requires
     open-with-requires
     same-length

@@ -1,95 +1,63 @@
--- The loop keeps: the first i octets are mixed. From `top`, the head of its column, each octet finds the rows below, modulo 4.
-use mathlib.Core.Path.{refl}
-use Prim.Native.Nat.{_-_}
+-- Each column of the block is mixed by itself.
+use mathlib.Core.Path.{ap, _∙_}
 use borrow.Author.Needs.{needs}
-use Rattle.octets.proofs.Filled.{Filled, none, more, all}
-use Rattle.octets.specs.Lists.{at}
-use Rattle.cipher.specs.Aes.{mixed, below, mixColumns}
+use Rattle.cipher.specs.Aes.{mixColumns}
+use Rattle.cipher.specs.Code.{mixedColumn}
+use Rattle.cipher.proofs.Lanes.{four}
 use Rattle.cipher.proofs.aes.mix_columns.Statement.{statement}
 use Rattle.cipher.proofs.aes.mix_columns.Tie as tie
 
-abbrev Inv-loop : tie.InvT-loop
-Inv-loop s t₀ i₀ t i = Filled 16 0 (λ k. mixed (at s k) (below s k 1) (below s k 2) (below s k 3)) i t
+word-requires : tie.Need-word-requires
+word-requires c κs = search needs
 
-abbrev μ-loop : tie.MeasureT-loop
-μ-loop s t₀ i₀ t i = 16 - i
+mix-column-requires : tie.Need-mix-column-requires
+mix-column-requires c κs = search needs
 
-loop-holds : tie.Need-loop-holds Inv-loop μ-loop
-loop-holds c = none _ _ _ _ refl
+word-requires-2 : tie.Need-word-requires-2
+word-requires-2 c κs = search needs
 
-mul-top : tie.Need-mul-top Inv-loop μ-loop
-mul-top c = search needs
+mix-column-requires-2 : tie.Need-mix-column-requires-2
+mix-column-requires-2 c κs = search needs
 
-array-read-mix : tie.Need-array-read-mix Inv-loop μ-loop
-array-read-mix c = search needs
+word-requires-3 : tie.Need-word-requires-3
+word-requires-3 c κs = search needs
 
-add-mix : tie.Need-add-mix Inv-loop μ-loop
-add-mix c = search needs
+mix-column-requires-3 : tie.Need-mix-column-requires-3
+mix-column-requires-3 c κs = search needs
 
-add-mix-2 : tie.Need-add-mix-2 Inv-loop μ-loop
-add-mix-2 c = search needs
+word-requires-4 : tie.Need-word-requires-4
+word-requires-4 c κs = search needs
 
-array-read-mix-2 : tie.Need-array-read-mix-2 Inv-loop μ-loop
-array-read-mix-2 c = search needs
+mix-column-requires-4 : tie.Need-mix-column-requires-4
+mix-column-requires-4 c κs = search needs
 
-add-mix-3 : tie.Need-add-mix-3 Inv-loop μ-loop
-add-mix-3 c = search needs
+block-of-requires : tie.Need-block-of-requires
+block-of-requires c κs = search needs
 
-add-mix-4 : tie.Need-add-mix-4 Inv-loop μ-loop
-add-mix-4 c = search needs
-
-array-read-mix-3 : tie.Need-array-read-mix-3 Inv-loop μ-loop
-array-read-mix-3 c = search needs
-
-add-mix-5 : tie.Need-add-mix-5 Inv-loop μ-loop
-add-mix-5 c = search needs
-
-add-mix-6 : tie.Need-add-mix-6 Inv-loop μ-loop
-add-mix-6 c = search needs
-
-array-read-mix-4 : tie.Need-array-read-mix-4 Inv-loop μ-loop
-array-read-mix-4 c = search needs
-
-mix-requires : tie.Need-mix-requires Inv-loop μ-loop
-mix-requires c κs = search needs
-
-array-write-t : tie.Need-array-write-t Inv-loop μ-loop
-array-write-t c = search needs
-
-add-i : tie.Need-add-i Inv-loop μ-loop
-add-i c = search needs
-
-loop-less : tie.Need-loop-less Inv-loop μ-loop
-loop-less c = search needs
-
-loop-again : tie.Need-loop-again Inv-loop μ-loop
-loop-again c = more _ _ _ _ _ _ (c .before .before .loop .inv) (search needs) (c .mix .ensures)
-
-returns : tie.Need-returns Inv-loop μ-loop
+returns : tie.Need-returns
 unfolding mixColumns
-returns c = all _ _ _ _ _ (c .before .loop .inv) (search needs)
+returns c =
+    let column1 : tie.After-mix-column = search in
+    let column2 : tie.After-mix-column2 = search in
+    let column3 : tie.After-mix-column3 = search in
+    let column4 : tie.After-mix-column4 = search in
+    c .block-of .ensures
+    ∙ four (column1 .mix-column .ensures ∙ ap mixedColumn (column1 .before .word .ensures))
+    (column2 .mix-column2 .ensures ∙ ap mixedColumn (column2 .before .word2 .ensures))
+    (column3 .mix-column3 .ensures ∙ ap mixedColumn (column3 .before .word3 .ensures))
+    (column4 .mix-column4 .ensures ∙ ap mixedColumn (column4 .before .word4 .ensures))
 
 pub mix-columns-spec : {M : Type 1} → statement M
 mix-columns-spec =
     tie.close
     (tie.spec
-    Inv-loop
-    μ-loop
-    loop-holds
-    mul-top
-    array-read-mix
-    add-mix
-    add-mix-2
-    array-read-mix-2
-    add-mix-3
-    add-mix-4
-    array-read-mix-3
-    add-mix-5
-    add-mix-6
-    array-read-mix-4
-    mix-requires
-    array-write-t
-    add-i
-    loop-less
-    loop-again
+    word-requires
+    mix-column-requires
+    word-requires-2
+    mix-column-requires-2
+    word-requires-3
+    mix-column-requires-3
+    word-requires-4
+    mix-column-requires-4
+    block-of-requires
     returns)

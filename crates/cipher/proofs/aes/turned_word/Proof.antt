@@ -1,4 +1,5 @@
 -- Octets 13, 14, 15 and 12 are the last word turned by one place; behind its first octet the constant adds only zeros.
+use mathlib.Core.Path.{_∙_}
 use lib.Bits.{xor-zero-r}
 use borrow.Author.Needs.{needs}
 use Rattle.cipher.specs.Aes.{turnedWord}
@@ -29,14 +30,18 @@ array-read-sub-byte-4 c = search needs
 sub-byte-requires-4 : tie.Need-sub-byte-requires-4
 sub-byte-requires-4 c κs = search needs
 
+word-of-requires : tie.Need-word-of-requires
+word-of-requires c κs = search needs
+
 returns : tie.Need-returns
 unfolding turnedWord
 returns c =
-    simp (
-      c .sub-byte4 .ensures,
-      c .before .sub-byte3 .ensures,
-      c .before .before .sub-byte2 .ensures,
-      c .before .before .before .sub-byte .ensures,
+    c .word-of .ensures
+    ∙ simp (
+      c .before .sub-byte4 .ensures,
+      c .before .before .sub-byte3 .ensures,
+      c .before .before .before .sub-byte2 .ensures,
+      c .before .before .before .before .sub-byte .ensures,
       xor-zero-r,
     )
 
@@ -52,4 +57,5 @@ turned-word-spec =
     sub-byte-requires-3
     array-read-sub-byte-4
     sub-byte-requires-4
+    word-of-requires
     returns)

@@ -13,12 +13,12 @@ use Rattle.cipher.proofs.mmo.hash_from.Statement.{statement}
 use Rattle.cipher.proofs.mmo.hash_from.Tie as tie
 
 abbrev Inv-loop : tie.InvT-loop
-Inv-loop sb b d n x₀ i₀ x i =
+Inv-loop sb rc b d n x₀ i₀ x i =
     (n ≡ (length d + 18) / 16) × (i ≤ n)
     × (over hashedIn x₀ (blocks (paddedAfter b d)) ≡ over hashedIn x (blocks (drop (16 * i) (paddedAfter b d))))
 
 abbrev μ-loop : tie.MeasureT-loop
-μ-loop sb b d n x₀ i₀ x i = n - i
+μ-loop sb rc b d n x₀ i₀ x i = n - i
 
 add-n : tie.Need-add-n Inv-loop μ-loop
 add-n c = search needs

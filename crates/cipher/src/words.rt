@@ -1,0 +1,76 @@
+// FIPS 197's words of four octets: the columns of a state (3.5) and the words of a round key (5.2). Each is
+// held as one number, its first octet lowest, and is known by the octets that spell it.
+ghost use mathlib.Core.Path.{_≡_};
+ghost use mathlib.Core.List.{[], _∷_, _++_};
+ghost use Prim.Native.Nat.{_<_};
+ghost use Rattle.octets.specs.Lists.{at, tab};
+ghost use Rattle.octets.specs.Least.{spelled};
+ghost use Rattle.cipher.specs.Field.{xtime};
+ghost use Rattle.cipher.specs.Aes.{word, rotWord};
+
+// The word of four octets.
+pub(crate) fn word_of(a: u8, b: u8, c: u8, d: u8) -> u32
+    ensures { λ r. ⌜ spelled 4 r ≡ a ∷ b ∷ c ∷ d ∷ [] ⌝ }
+{
+    (a as u32) + 256 * (b as u32) + 65536 * (c as u32) + 16777216 * (d as u32)
+}
+
+// Word i of a block.
+pub(crate) fn word(k: [u8; 16], i: usize) -> u32
+    requires { ⌜ i < 4 ⌝ }
+    ensures { λ r. ⌜ spelled 4 r ≡ word k i ⌝ }
+{
+    let at = 4 * i;
+    word_of(k[at], k[at + 1], k[at + 2], k[at + 3])
+}
+
+// The block of four words.
+pub(crate) fn block_of(a: u32, b: u32, c: u32, d: u32) -> [u8; 16]
+    ensures { λ r. ⌜ r ≡ spelled 4 a ++ (spelled 4 b ++ (spelled 4 c ++ spelled 4 d)) ⌝ }
+{
+    let a1 = a / 256;
+    let a2 = a1 / 256;
+    let a3 = a2 / 256;
+    let b1 = b / 256;
+    let b2 = b1 / 256;
+    let b3 = b2 / 256;
+    let c1 = c / 256;
+    let c2 = c1 / 256;
+    let c3 = c2 / 256;
+    let d1 = d / 256;
+    let d2 = d1 / 256;
+    let d3 = d2 / 256;
+    [
+        (a % 256) as u8,
+        (a1 % 256) as u8,
+        (a2 % 256) as u8,
+        (a3 % 256) as u8,
+        (b % 256) as u8,
+        (b1 % 256) as u8,
+        (b2 % 256) as u8,
+        (b3 % 256) as u8,
+        (c % 256) as u8,
+        (c1 % 256) as u8,
+        (c2 % 256) as u8,
+        (c3 % 256) as u8,
+        (d % 256) as u8,
+        (d1 % 256) as u8,
+        (d2 % 256) as u8,
+        (d3 % 256) as u8,
+    ]
+}
+
+// RotWord (5.2).
+pub(crate) fn rot_word(w: u32) -> u32
+    ensures { λ r. ⌜ spelled 4 r ≡ rotWord (spelled 4 w) ⌝ }
+{
+    w / 256 + w % 256 * 16777216
+}
+
+// Multiplication by {02} of each octet (4.2.1): a shift of the lower seven bits, and {1b} where the
+// highest is set.
+pub(crate) fn doubled(w: u32) -> u32
+    ensures { λ r. ⌜ spelled 4 r ≡ tab 4 (λ j. xtime (at (spelled 4 w) j)) ⌝ }
+{
+    (w & 0x7f7f7f7f) * 2 ^ (w / 128 & 0x01010101) * 27
+}
