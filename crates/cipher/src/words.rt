@@ -20,8 +20,8 @@ pub(crate) fn word(k: [u8; 16], i: usize) -> u32
     requires { ⌜ i < 4 ⌝ }
     ensures { λ r. ⌜ spelled 4 r ≡ word k i ⌝ }
 {
-    let at = 4 * i;
-    word_of(k[at], k[at + 1], k[at + 2], k[at + 3])
+    let start = 4 * i;
+    word_of(k[start], k[start + 1], k[start + 2], k[start + 3])
 }
 
 // The block of four words.

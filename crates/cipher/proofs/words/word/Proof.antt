@@ -4,8 +4,8 @@ use native.Mathlib.Nat.{add-zero}
 use Rattle.cipher.proofs.words.word.Statement.{statement}
 use Rattle.cipher.proofs.words.word.Tie as tie
 
-mul-at : tie.Need-mul-at
-mul-at c = search needs
+mul-start : tie.Need-mul-start
+mul-start c = search needs
 
 array-read-word-of : tie.Need-array-read-word-of
 array-read-word-of c = search needs
@@ -38,7 +38,7 @@ pub word-spec : {M : Type 1} → statement M
 word-spec =
     tie.close
     (tie.spec
-    mul-at
+    mul-start
     array-read-word-of
     add-word-of
     array-read-word-of-2
