@@ -8,7 +8,8 @@ use lib.Bits.{bitAnd, bitXor, and-mask, and-mod, and-shr, xor-mod, xor-shr}
 use Rattle.octets.specs.Lists.{at, tab}
 use Rattle.octets.specs.Least.{spelled}
 use Rattle.cipher.specs.Field.{xtime}
-use Rattle.cipher.specs.Aes.{rotWord, addWords}
+use Rattle.cipher.specs.Aes.{addBlocks, rotWord, addWords}
+use Rattle.cipher.specs.Code.{blockOf}
 
 joined : (x y : ℕ) (l m : List ℕ) → x ≡ y → l ≡ m → x ∷ l ≡ y ∷ m
 joined x y l m e f = ap₂ (λ (a : ℕ) (k : List ℕ). a ∷ k) e f
@@ -78,3 +79,11 @@ added v w e f = spelled-added 4 v w ∙ ap₂ addWords e f
 
 pub four : {a b c d p q r s : List ℕ} → a ≡ p → b ≡ q → c ≡ r → d ≡ s → a ++ (b ++ (c ++ d)) ≡ p ++ (q ++ (r ++ s))
 four e f g h = ap₂ _++_ e (ap₂ _++_ f (ap₂ _++_ g h))
+
+pub blocks-added : (a b : List ℕ)
+    → blockOf (bitXor (at a 0) (at b 0) ∷ bitXor (at a 1) (at b 1) ∷ bitXor (at a 2) (at b 2) ∷ bitXor (at a 3) (at b 3) ∷ [])
+    ≡ addBlocks (blockOf a) (blockOf b)
+unfolding blockOf
+blocks-added a b =
+    four (spelled-added 4 (at a 0) (at b 0)) (spelled-added 4 (at a 1) (at b 1)) (spelled-added 4 (at a 2) (at b 2))
+    (spelled-added 4 (at a 3) (at b 3))

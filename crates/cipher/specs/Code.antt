@@ -5,8 +5,13 @@ use mathlib.Core.List.{List, _∷_, _++_}
 use Prim.Native.Nat.{ℕ, _+_, _-_, _*_, _%_}
 use lib.ListN.{length, replicate}
 use Rattle.octets.specs.Lists.{at, tab}
+use Rattle.octets.specs.Least.{spelled}
 use Rattle.cipher.specs.Aes.{mixed, below}
 use Rattle.cipher.specs.Blocks.{twoOctets}
+
+-- the block that four words are, each held as the number that its octets spell
+unfoldable pub blockOf : List ℕ → List ℕ
+blockOf w = spelled 4 (at w 0) ++ (spelled 4 (at w 1) ++ (spelled 4 (at w 2) ++ spelled 4 (at w 3)))
 
 -- `mixColumns` of one column, of four octets
 abbrev pub mixedColumn : List ℕ → List ℕ

@@ -1,16 +1,18 @@
-// AES-128, as FIPS 197 has it: its names, its order. A state is 16 octets; its columns are mixed, and
-// round keys added and made, as words, which measured best (measure/README.md).
+// AES-128, as FIPS 197 has it: its names, its order. From round to round a state is four words, its
+// columns; that measured best (measure/README.md). The S-box and the shift of rows take its octets.
+use crate::words::add_words;
 use crate::words::block_of;
 use crate::words::doubled;
 use crate::words::rot_word;
 use crate::words::word;
 use crate::words::word_of;
+use crate::words::words_of;
 ghost use mathlib.Core.Path.{_≡_};
 ghost use Rattle.octets.specs.Lists.{tab};
 ghost use Rattle.octets.specs.Least.{spelled};
 ghost use Rattle.cipher.specs.Sbox.{sbox, sboxTable};
 ghost use Rattle.cipher.specs.Aes.{subBytes, shiftRows, mixColumns, addBlocks, addRoundKey, roundOf, lastRound, cipher, rcon, turnedWord, spread, nextKey, keyExpansion};
-ghost use Rattle.cipher.specs.Code.{mixedColumn};
+ghost use Rattle.cipher.specs.Code.{blockOf, mixedColumn};
 
 // FIPS 197, figure 7.
 const SBOX: [u8; 256] = [
@@ -330,56 +332,56 @@ fn shift_rows(s: [u8; 16]) -> [u8; 16]
     ]
 }
 
-// A column (5.1.3). {02} of a row and {03} of the next are the double of their sum and the next once
-// more; the sum of the other two is that sum, two rows on.
+// A column (5.1.3): {02} of each row, {03} of the next, which is its double and itself, and the two behind.
 fn mix_column(w: u32) -> u32
     ensures { λ r. ⌜ spelled 4 r ≡ mixedColumn (spelled 4 w) ⌝ }
 {
-    let next = rot_word(w);
-    let sum = w ^ next;
-    doubled(sum) ^ next ^ rot_word(rot_word(sum))
+    let twice = doubled(w);
+    let third = rot_word(rot_word(w));
+    twice ^ rot_word(twice ^ w) ^ third ^ rot_word(third)
 }
 
-fn mix_columns(s: [u8; 16]) -> [u8; 16]
-    ensures { λ r. ⌜ r ≡ mixColumns s ⌝ }
+fn mix_columns(s: [u8; 16]) -> [u32; 4]
+    ensures { λ r. ⌜ blockOf r ≡ mixColumns s ⌝ }
 {
-    block_of(
-        mix_column(word(s, 0)),
-        mix_column(word(s, 1)),
-        mix_column(word(s, 2)),
-        mix_column(word(s, 3)),
-    )
+    let a = mix_column(word(s, 0));
+    let b = mix_column(word(s, 1));
+    let c = mix_column(word(s, 2));
+    let d = mix_column(word(s, 3));
+    [a, b, c, d]
 }
 
 pub(crate) fn add_blocks(a: [u8; 16], b: [u8; 16]) -> [u8; 16]
     ensures { λ r. ⌜ r ≡ addBlocks a b ⌝ }
 {
-    block_of(
-        word(a, 0) ^ word(b, 0),
-        word(a, 1) ^ word(b, 1),
-        word(a, 2) ^ word(b, 2),
-        word(a, 3) ^ word(b, 3),
-    )
+    block_of(add_words(words_of(a), words_of(b)))
 }
 
-fn add_round_key(s: [u8; 16], k: [u8; 16]) -> [u8; 16]
-    ensures { λ r. ⌜ r ≡ addRoundKey s k ⌝ }
+fn add_round_key(s: [u32; 4], k: [u8; 16]) -> [u32; 4]
+    ensures { λ r. ⌜ blockOf r ≡ addRoundKey (blockOf s) k ⌝ }
 {
-    add_blocks(s, k)
+    add_words(s, words_of(k))
 }
 
-fn round(sb: &[u8; 256], s: [u8; 16], k: [u8; 16]) -> [u8; 16]
+fn sub_and_shift(sb: &[u8; 256], s: [u32; 4]) -> [u8; 16]
     requires { ⌜ now sb ≡ sboxTable ⌝ }
-    ensures { λ r. ⌜ r ≡ roundOf s k ⌝ }
+    ensures { λ r. ⌜ r ≡ shiftRows (subBytes (blockOf s)) ⌝ }
 {
-    add_round_key(mix_columns(shift_rows(sub_bytes(sb, s))), k)
+    shift_rows(sub_bytes(sb, block_of(s)))
 }
 
-fn last_round(sb: &[u8; 256], s: [u8; 16], k: [u8; 16]) -> [u8; 16]
+fn round(sb: &[u8; 256], s: [u32; 4], k: [u8; 16]) -> [u32; 4]
     requires { ⌜ now sb ≡ sboxTable ⌝ }
-    ensures { λ r. ⌜ r ≡ lastRound s k ⌝ }
+    ensures { λ r. ⌜ blockOf r ≡ roundOf (blockOf s) k ⌝ }
 {
-    add_round_key(shift_rows(sub_bytes(sb, s)), k)
+    add_round_key(mix_columns(sub_and_shift(sb, s)), k)
+}
+
+fn last_round(sb: &[u8; 256], s: [u32; 4], k: [u8; 16]) -> [u8; 16]
+    requires { ⌜ now sb ≡ sboxTable ⌝ }
+    ensures { λ r. ⌜ r ≡ lastRound (blockOf s) k ⌝ }
+{
+    block_of(add_round_key(words_of(sub_and_shift(sb, s)), k))
 }
 
 // A block enciphered under an expanded key.
@@ -388,7 +390,7 @@ pub(crate) fn encipher(sb: &[u8; 256], w: &[[u8; 16]; 11], block: [u8; 16]) -> [
     ensures { λ r. ⌜ r ≡ cipher (now (w .entry)) block ⌝ }
 {
     let first = w[0];
-    let mut s = add_round_key(block, first);
+    let mut s = add_round_key(words_of(block), first);
     for i in 0..9 {
         let k = w[i + 1];
         let next = round(sb, s, k);
@@ -417,7 +419,7 @@ fn spread_word(k: [u8; 16], t: u32) -> [u8; 16]
     let b = word(k, 1) ^ a;
     let c = word(k, 2) ^ b;
     let d = word(k, 3) ^ c;
-    block_of(a, b, c, d)
+    block_of([a, b, c, d])
 }
 
 fn next_key(sb: &[u8; 256], c: u8, k: [u8; 16]) -> [u8; 16]

@@ -6,7 +6,8 @@ ghost use Prim.Native.Nat.{_<_};
 ghost use Rattle.octets.specs.Lists.{at, tab};
 ghost use Rattle.octets.specs.Least.{spelled};
 ghost use Rattle.cipher.specs.Field.{xtime};
-ghost use Rattle.cipher.specs.Aes.{word, rotWord};
+ghost use Rattle.cipher.specs.Aes.{addBlocks, word, rotWord};
+ghost use Rattle.cipher.specs.Code.{blockOf};
 
 // The word of four octets.
 pub(crate) fn word_of(a: u8, b: u8, c: u8, d: u8) -> u32
@@ -24,10 +25,25 @@ pub(crate) fn word(k: [u8; 16], i: usize) -> u32
     word_of(k[start], k[start + 1], k[start + 2], k[start + 3])
 }
 
-// The block of four words.
-pub(crate) fn block_of(a: u32, b: u32, c: u32, d: u32) -> [u8; 16]
-    ensures { λ r. ⌜ r ≡ spelled 4 a ++ (spelled 4 b ++ (spelled 4 c ++ spelled 4 d)) ⌝ }
+// The four words of a block.
+pub(crate) fn words_of(b: [u8; 16]) -> [u32; 4]
+    ensures { λ r. ⌜ blockOf r ≡ b ⌝ }
 {
+    let x = word(b, 0);
+    let y = word(b, 1);
+    let z = word(b, 2);
+    let v = word(b, 3);
+    [x, y, z, v]
+}
+
+// The block of four words.
+pub(crate) fn block_of(w: [u32; 4]) -> [u8; 16]
+    ensures { λ r. ⌜ r ≡ spelled 4 (at w 0) ++ (spelled 4 (at w 1) ++ (spelled 4 (at w 2) ++ spelled 4 (at w 3))) ⌝ }
+{
+    let a = w[0];
+    let b = w[1];
+    let c = w[2];
+    let d = w[3];
     let a1 = a / 256;
     let a2 = a1 / 256;
     let a3 = a2 / 256;
@@ -58,6 +74,12 @@ pub(crate) fn block_of(a: u32, b: u32, c: u32, d: u32) -> [u8; 16]
         (d2 % 256) as u8,
         (d3 % 256) as u8,
     ]
+}
+
+pub(crate) fn add_words(a: [u32; 4], b: [u32; 4]) -> [u32; 4]
+    ensures { λ r. ⌜ blockOf r ≡ addBlocks (blockOf a) (blockOf b) ⌝ }
+{
+    [a[0] ^ b[0], a[1] ^ b[1], a[2] ^ b[2], a[3] ^ b[3]]
 }
 
 // RotWord (5.2).

@@ -9,7 +9,7 @@ use lib.Bits.{bitXor, bitOr, differ, xor-step, xor-shr, xor-mod, xor-self, xor-z
 use lib.Dec.{lit<}
 
 -- what holds of 0 and of 1 holds of a binary digit
-pub digit : (P : ℕ → Type 0) → P 0 → P 1 → (x : ℕ) → x < 2 → P x
+digit : (P : ℕ → Type 0) → P 0 → P 1 → (x : ℕ) → x < 2 → P x
 digit P p q zero h = p
 digit P p q (suc zero) h = q
 digit P p q (suc (suc x)) h = absurd (not-suc-le-zero (le-of-suc-le-suc (le-of-suc-le-suc h)))

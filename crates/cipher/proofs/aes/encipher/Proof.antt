@@ -1,21 +1,25 @@
--- The loop keeps: s is the state after i rounds from the block with the first key added; nine lead to the last round.
+-- The loop keeps: the words s are the state after i rounds from the block with the first key added; nine lead to the last round.
 use mathlib.Core.Path.{_≡_, refl}
 use Prim.Native.Nat.{_-_, _≤_}
 use native.Mathlib.Omega.{arith}
 use borrow.Author.Needs.{needs}
 use Rattle.cipher.specs.Aes.{rounds, cipher}
+use Rattle.cipher.specs.Code.{blockOf}
 use Rattle.cipher.proofs.Rounds.{rounds-more}
 use Rattle.cipher.proofs.aes.encipher.Statement.{statement}
 use Rattle.cipher.proofs.aes.encipher.Tie as tie
 
 abbrev Inv-loop : tie.InvT-loop
-Inv-loop sb w s₀ i₀ s i = (i ≤ 9) × (s ≡ rounds w s₀ i)
+Inv-loop sb w s₀ i₀ s i = (i ≤ 9) × (blockOf s ≡ rounds w (blockOf s₀) i)
 
 abbrev μ-loop : tie.MeasureT-loop
 μ-loop sb w s₀ i₀ s i = 9 - i
 
 element-copy-out-first : tie.Need-element-copy-out-first Inv-loop μ-loop
 element-copy-out-first c = search needs
+
+words-of-requires : tie.Need-words-of-requires Inv-loop μ-loop
+words-of-requires c κs = search needs
 
 add-round-key-requires : tie.Need-add-round-key-requires Inv-loop μ-loop
 add-round-key-requires c κs = search needs
@@ -47,7 +51,7 @@ loop-again c =
     let at-loop : tie.At-loop Inv-loop μ-loop = search in
     let after-add-round-key : tie.After-add-round-key Inv-loop μ-loop = search in
     let start : tie.Start Inv-loop μ-loop = search in
-    (search needs, cc (rounds-more (start .args .w .now) (after-add-round-key .add-round-key .result) (at-loop .loop .i)))
+    (search needs, cc (rounds-more (start .args .w .now) (blockOf (after-add-round-key .add-round-key .result)) (at-loop .loop .i)))
 
 element-copy-out-last : tie.Need-element-copy-out-last Inv-loop μ-loop
 element-copy-out-last c = search needs
@@ -66,6 +70,7 @@ encipher-spec =
     Inv-loop
     μ-loop
     element-copy-out-first
+    words-of-requires
     add-round-key-requires
     loop-holds
     add-k

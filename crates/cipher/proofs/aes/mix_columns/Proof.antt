@@ -1,8 +1,8 @@
--- Each column of the block is mixed by itself.
+-- Each column is mixed by itself.
 use mathlib.Core.Path.{ap, _∙_}
 use borrow.Author.Needs.{needs}
 use Rattle.cipher.specs.Aes.{mixColumns}
-use Rattle.cipher.specs.Code.{mixedColumn}
+use Rattle.cipher.specs.Code.{blockOf, mixedColumn}
 use Rattle.cipher.proofs.Lanes.{four}
 use Rattle.cipher.proofs.aes.mix_columns.Statement.{statement}
 use Rattle.cipher.proofs.aes.mix_columns.Tie as tie
@@ -31,21 +31,16 @@ word-requires-4 c κs = search needs
 mix-column-requires-4 : tie.Need-mix-column-requires-4
 mix-column-requires-4 c κs = search needs
 
-block-of-requires : tie.Need-block-of-requires
-block-of-requires c κs = search needs
-
 returns : tie.Need-returns
-unfolding mixColumns
+unfolding mixColumns blockOf
 returns c =
     let column1 : tie.After-mix-column = search in
     let column2 : tie.After-mix-column2 = search in
     let column3 : tie.After-mix-column3 = search in
-    let column4 : tie.After-mix-column4 = search in
-    c .block-of .ensures
-    ∙ four (column1 .mix-column .ensures ∙ ap mixedColumn (column1 .before .word .ensures))
+    four (column1 .mix-column .ensures ∙ ap mixedColumn (column1 .before .word .ensures))
     (column2 .mix-column2 .ensures ∙ ap mixedColumn (column2 .before .word2 .ensures))
     (column3 .mix-column3 .ensures ∙ ap mixedColumn (column3 .before .word3 .ensures))
-    (column4 .mix-column4 .ensures ∙ ap mixedColumn (column4 .before .word4 .ensures))
+    (c .mix-column4 .ensures ∙ ap mixedColumn (c .before .word4 .ensures))
 
 pub mix-columns-spec : {M : Type 1} → statement M
 mix-columns-spec =
@@ -59,5 +54,4 @@ mix-columns-spec =
     mix-column-requires-3
     word-requires-4
     mix-column-requires-4
-    block-of-requires
     returns)

@@ -1,14 +1,11 @@
--- The four calls are the definition's four steps, each taking what the one before gave.
+-- The calls are the definition's four steps, each taking what the one before gave.
 use borrow.Author.Needs.{needs}
 use Rattle.cipher.specs.Aes.{roundOf}
 use Rattle.cipher.proofs.aes.round.Statement.{statement}
 use Rattle.cipher.proofs.aes.round.Tie as tie
 
-sub-bytes-requires : tie.Need-sub-bytes-requires
-sub-bytes-requires c κs = search needs
-
-shift-rows-requires : tie.Need-shift-rows-requires
-shift-rows-requires c κs = search needs
+sub-and-shift-requires : tie.Need-sub-and-shift-requires
+sub-and-shift-requires c κs = search needs
 
 mix-columns-requires : tie.Need-mix-columns-requires
 mix-columns-requires c κs = search needs
@@ -22,10 +19,4 @@ returns c = cc
 
 pub round-spec : {M : Type 1} → statement M
 round-spec =
-    tie.close
-    (tie.spec
-    sub-bytes-requires
-    shift-rows-requires
-    mix-columns-requires
-    add-round-key-requires
-    returns)
+    tie.close (tie.spec sub-and-shift-requires mix-columns-requires add-round-key-requires returns)
