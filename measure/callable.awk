@@ -1,6 +1,7 @@
 # Makes functions of a Rattle program callable from C, in the program's module as LLVM text.
 #
-# CALLABLE="crate::f crate::m::g" names them; their symbols become crate__f and crate__m__g. What says x86-64 (layout,
+# CALLABLE="crate::f crate::m::g" names them; their symbols become crate__f and crate__m__g, with what PREFIX says before
+# them, so that two modules can stand in one program: all other functions are the module's own. What says x86-64 (layout,
 # triple, processor) is dropped, so that the module compiles for the processor at hand, and `main` leaves its name to the
 # harness. The code stays as it is.
 BEGIN {
@@ -8,7 +9,7 @@ BEGIN {
     for (i = 1; i <= n; i++) {
         symbol = names[i]
         gsub(/::/, "__", symbol)
-        plain["@\"" names[i] "\""] = "@" symbol
+        plain["@\"" names[i] "\""] = "@" ENVIRON["PREFIX"] symbol
     }
 }
 /^target (datalayout|triple)/ { next }
@@ -20,7 +21,7 @@ BEGIN {
         sub(/^define internal /, "define ")
         found[name] = 1
     }
-    sub(/@main\(/, "@program_main(")
+    sub(/@main\(/, "@" ENVIRON["PREFIX"] "program_main(")
 }
 {
     for (name in plain) {

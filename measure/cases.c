@@ -18,6 +18,16 @@ enum { ROUNDS = 41, STACK = 1 << 20 };
 
 static volatile uint64_t sink; /* so that no call is left out */
 
+void must(int right, const char *what) {
+    if (!right) {
+        printf("%s: a wrong answer\n", what);
+        exit(1);
+    }
+}
+
+/* Whether a case is the first that is compared with its reference, and so is led by a head of its own. */
+static int leads(const struct measured *cases, size_t i) { return i == 0 || strcmp(cases[i].beside, cases[i - 1].beside); }
+
 __attribute__((noinline)) static uint64_t nothing(void) { return 0; }
 
 /* ---- time: both sides in turns, on one core */
@@ -63,9 +73,12 @@ static void time_all(const struct measured *cases, size_t n) {
     CPU_ZERO(&one);
     CPU_SET(sched_getcpu(), &one);
     sched_setaffinity(0, sizeof one, &one);
-    printf("%-16s %9s %9s %7s %7s   ns a call, the least of %d rounds; their ratio, and the median of the rounds'\n", "time",
-           "Rattle", "Rust", "ratio", "median", ROUNDS);
-    for (size_t i = 0; i < n; i++) time_case(&cases[i]);
+    for (size_t i = 0; i < n; i++) {
+        if (leads(cases, i))
+            printf("%-16s %9s %9s %7s %7s   ns a call, the least of %d rounds; their ratio, and the median of the rounds'\n",
+                   "time", "now", cases[i].beside, "ratio", "median", ROUNDS);
+        time_case(&cases[i]);
+    }
 }
 
 /* ---- stack: the call runs on a stack of its own, painted before; what is no longer paint was touched. Two paints, since
@@ -95,21 +108,26 @@ static size_t touched(side *f) {
     return most;
 }
 
-static int stack_all(const struct measured *cases, size_t n) {
-    size_t base;
+static int stack_all(const struct measured *cases, size_t n, const char *bar) {
+    size_t base, most = 0, largest = 0;
     stack = mmap(0, STACK, PROT_READ | PROT_WRITE, MAP_PRIVATE | MAP_ANONYMOUS, -1, 0);
     if (stack == MAP_FAILED) {
         puts("no memory for a stack");
         return 2;
     }
     base = touched(nothing);
-    printf("%-16s %9s%s   octets touched by a call with its callees\n", "stack", "Rattle",
-           cases->reference ? "      Rust" : "");
     for (size_t i = 0; i < n; i++) {
-        printf("%-16s %9zu", cases[i].name, touched(cases[i].rattle) - base);
+        size_t ours = touched(cases[i].rattle) - base;
+        if (leads(cases, i))
+            printf("%-16s %9s %9s   octets touched by a call with its callees\n", "stack", "now", cases[i].beside);
+        printf("%-16s %9zu", cases[i].name, ours);
         if (cases[i].reference) printf(" %9zu", touched(cases[i].reference) - base);
         putchar('\n');
+        if (ours > most) most = ours, largest = i;
     }
+    if (bar)
+        printf("The largest, %s with %zu octets, is %s %s.\n", cases[largest].name, most,
+               most <= strtoul(bar, 0, 10) ? "within" : "OVER", bar);
     return 0;
 }
 
@@ -130,12 +148,12 @@ int measure(int argc, char **argv, const struct measured *cases, size_t n) {
     const char *mode = argc > 1 ? argv[1] : "";
     for (size_t i = 0; i < n; i++)
         if (cases[i].reference && cases[i].rattle() != cases[i].reference()) {
-            printf("%s: the two answers differ\n", cases[i].name);
+            printf("%s: the answers now and of %s differ\n", cases[i].name, cases[i].beside);
             return 1;
         }
     if (!strcmp(mode, "time")) time_all(cases, n);
-    else if (!strcmp(mode, "stack")) return stack_all(cases, n);
-    else if (!strcmp(mode, "names")) for (size_t i = 0; i < n; i++) puts(cases[i].name);
+    else if (!strcmp(mode, "stack")) return stack_all(cases, n, argc > 2 ? argv[2] : 0);
+    else if (!strcmp(mode, "names")) for (size_t i = 0; i < n; i++) printf("%s %s\n", cases[i].name, cases[i].beside);
     else if (!strcmp(mode, "count")) {
         marked(nothing);
         for (size_t i = 0; i < n; i++) {

@@ -1,9 +1,12 @@
 //! Ordinary optimised Rust for what `cipher` does, to be measured beside it: CCM*, AES-MMO and the keyed hash,
-//! written once over a trait and compiled for two ciphers.
-//!   Mul   octets, MixColumns by the general multiplication in GF(2^8): the algorithm that `cipher` has
-//!   Tab   four tables of 32-bit words and an expanded key: the ordinary table program
-//! Exported for C as mul_seal, mul_open, mul_keyed_hash and tab_seal, tab_open, tab_keyed_hash. An answer is a number:
-//! the octets made, or minus the number of the refusal.
+//! written once over a trait and compiled for three ciphers. Each expands the key at each call.
+//!   Dbl   octets, an S-box, MixColumns by doubling and adding, round constants from a table
+//!   Wrd   the same, with columns and round keys as 32-bit words, four octets doubled at once
+//!   Tab   four tables of 32-bit words: the ordinary table program
+//! Exported for C as dbl_seal, dbl_open, dbl_keyed_hash, and so on. An answer is a number: the octets made, or minus the
+//! number of the refusal. frames.rs has whole network frames over the same three.
+mod frames;
+
 use std::slice::{from_raw_parts, from_raw_parts_mut};
 
 static SBOX: [u8; 256] = [
@@ -22,29 +25,42 @@ static SBOX: [u8; 256] = [
     153, 45, 15, 176, 84, 187, 22,
 ];
 
+// Refusals by the numbers of docs/RULES.md 1.5.
+#[derive(Clone, Copy)]
+enum Refusal {
+    Room = 1,
+    Long = 2,
+    Short = 3,
+    Form = 4,
+    Security = 5,
+    NoKey = 6,
+    Top = 7,
+    Stale = 8,
+    Forged = 9,
+    Full = 10,
+    Argument = 14,
+}
+
+fn number(made: Result<usize, Refusal>) -> i64 {
+    match made {
+        Ok(octets) => octets as i64,
+        Err(refusal) => -(refusal as i64),
+    }
+}
+
 trait Cipher {
     fn expand(key: &[u8; 16]) -> Self;
     fn encipher(&self, block: &mut [u8; 16]);
 }
 
-// ---- octets, general multiplication
+// ---- octets, doubling and adding
 
-struct Mul([[u8; 16]; 11]);
+struct Dbl([[u8; 16]; 11]);
 
-fn doubled(a: u8) -> u8 {
-    (a << 1) ^ (a >> 7) * 27
-}
+static ROUND_CONSTANTS: [u8; 10] = [1, 2, 4, 8, 16, 32, 64, 128, 27, 54];
 
-fn times(a: u8, b: u8) -> u8 {
-    let (mut sum, mut x, mut y) = (0, a, b);
-    for _ in 0..8 {
-        if y & 1 == 1 {
-            sum ^= x;
-        }
-        x = doubled(x);
-        y >>= 1;
-    }
-    sum
+const fn doubled(a: u8) -> u8 {
+    (a << 1) ^ (a >> 7) * 0x1b
 }
 
 fn add(a: &mut [u8; 16], b: &[u8; 16]) {
@@ -57,40 +73,102 @@ fn sub_and_shift(s: &[u8; 16]) -> [u8; 16] {
     std::array::from_fn(|i| SBOX[s[(i + i % 4 * 4) % 16] as usize])
 }
 
+// {03}b is {02}b + b.
 fn mix_columns(s: &[u8; 16]) -> [u8; 16] {
+    let d = s.map(doubled);
     std::array::from_fn(|i| {
-        let at = |k: usize| s[i / 4 * 4 + (i + k) % 4];
-        times(2, at(0)) ^ times(3, at(1)) ^ at(2) ^ at(3)
+        let at = |k: usize| i / 4 * 4 + (i + k) % 4;
+        d[at(0)] ^ d[at(1)] ^ s[at(1)] ^ s[at(2)] ^ s[at(3)]
     })
 }
 
-impl Cipher for Mul {
-    fn expand(key: &[u8; 16]) -> Mul {
+fn next_key(k: &[u8; 16], c: u8) -> [u8; 16] {
+    let mut n = *k;
+    for j in 0..4 {
+        n[j] ^= SBOX[k[12 + (j + 1) % 4] as usize];
+    }
+    n[0] ^= c;
+    for j in 4..16 {
+        n[j] ^= n[j - 4];
+    }
+    n
+}
+
+impl Cipher for Dbl {
+    fn expand(key: &[u8; 16]) -> Dbl {
         let mut w = [*key; 11];
-        let mut c = 1;
-        for r in 1..11 {
-            let k = w[r - 1];
-            let n = &mut w[r];
-            for j in 0..4 {
-                n[j] = k[j] ^ SBOX[k[12 + (j + 1) % 4] as usize];
-            }
-            n[0] ^= c;
-            for j in 4..16 {
-                n[j] = k[j] ^ n[j - 4];
-            }
-            c = doubled(c);
+        for r in 0..10 {
+            w[r + 1] = next_key(&w[r], ROUND_CONSTANTS[r]);
         }
-        Mul(w)
+        Dbl(w)
     }
 
-    fn encipher(&self, s: &mut [u8; 16]) {
-        add(s, &self.0[0]);
-        for k in &self.0[1..10] {
-            *s = mix_columns(&sub_and_shift(s));
-            add(s, k);
+    fn encipher(&self, block: &mut [u8; 16]) {
+        let [first, middle @ .., last] = &self.0;
+        let mut s = *block;
+        add(&mut s, first);
+        for k in middle {
+            s = mix_columns(&sub_and_shift(&s));
+            add(&mut s, k);
         }
-        *s = sub_and_shift(s);
-        add(s, &self.0[10]);
+        *block = sub_and_shift(&s);
+        add(block, last);
+    }
+}
+
+// ---- words, doubling and adding
+
+struct Wrd([[u32; 4]; 11]);
+
+fn words(s: &[u8; 16]) -> [u32; 4] {
+    std::array::from_fn(|i| u32::from_le_bytes(s[4 * i..4 * i + 4].try_into().unwrap()))
+}
+
+fn octets(w: [u32; 4]) -> [u8; 16] {
+    std::array::from_fn(|i| w[i / 4].to_le_bytes()[i % 4])
+}
+
+fn sum(a: [u32; 4], b: &[u32; 4]) -> [u32; 4] {
+    std::array::from_fn(|i| a[i] ^ b[i])
+}
+
+fn doubled_word(w: u32) -> u32 {
+    ((w & 0x7f7f7f7f) << 1) ^ (w >> 7 & 0x01010101) * 0x1b
+}
+
+// {02}a + {03}b + c + d is {02}(a + b) + b + (c + d).
+fn mix_column(w: u32) -> u32 {
+    let next = w.rotate_right(8);
+    let sum = w ^ next;
+    doubled_word(sum) ^ next ^ sum.rotate_right(16)
+}
+
+fn next_words(k: &[u32; 4], c: u8) -> [u32; 4] {
+    let turned = k[3].rotate_right(8).to_le_bytes().map(|x| SBOX[x as usize]);
+    let mut n = *k;
+    n[0] ^= u32::from_le_bytes(turned) ^ c as u32;
+    for i in 1..4 {
+        n[i] ^= n[i - 1];
+    }
+    n
+}
+
+impl Cipher for Wrd {
+    fn expand(key: &[u8; 16]) -> Wrd {
+        let mut w = [words(key); 11];
+        for r in 0..10 {
+            w[r + 1] = next_words(&w[r], ROUND_CONSTANTS[r]);
+        }
+        Wrd(w)
+    }
+
+    fn encipher(&self, block: &mut [u8; 16]) {
+        let [first, middle @ .., last] = &self.0;
+        let mut s = sum(words(block), first);
+        for k in middle {
+            s = sum(words(&sub_and_shift(&octets(s))).map(mix_column), k);
+        }
+        *block = octets(sum(words(&sub_and_shift(&octets(s))), last));
     }
 }
 
@@ -105,7 +183,7 @@ const fn tables() -> [[u32; 256]; 4] {
     let mut i = 0;
     while i < 256 {
         let s = SBOX[i];
-        let d = (s << 1) ^ (s >> 7) * 27;
+        let d = doubled(s);
         let w = u32::from_be_bytes([d, s, s, d ^ s]);
         let mut j = 0;
         while j < 4 {
@@ -163,12 +241,6 @@ impl Cipher for Tab {
 }
 
 // ---- CCM*
-
-const ROOM: i64 = -1;
-const LONG: i64 = -2;
-const SHORT: i64 = -3;
-const FORGED: i64 = -9;
-const ARGUMENT: i64 = -14;
 
 fn tag_length(m: usize) -> bool {
     matches!(m, 0 | 4 | 6 | 8 | 10 | 12 | 14 | 16)
@@ -242,15 +314,15 @@ fn seal<C: Cipher>(
     a: &[u8],
     p: &[u8],
     out: &mut [u8],
-) -> i64 {
+) -> Result<usize, Refusal> {
     if !tag_length(m) {
-        return ARGUMENT;
+        return Err(Refusal::Argument);
     }
     if a.len() > 128 || p.len() > 128 {
-        return LONG;
+        return Err(Refusal::Long);
     }
     if out.len() < p.len() + m {
-        return ROOM;
+        return Err(Refusal::Room);
     }
     let c = C::expand(key);
     stream(&c, nonce, p, out);
@@ -258,7 +330,7 @@ fn seal<C: Cipher>(
     c.encipher(&mut tag);
     add(&mut tag, &mac(&c, m, nonce, a, p));
     out[p.len()..p.len() + m].copy_from_slice(&tag[..m]);
-    (p.len() + m) as i64
+    Ok(p.len() + m)
 }
 
 fn open<C: Cipher>(
@@ -268,19 +340,19 @@ fn open<C: Cipher>(
     a: &[u8],
     c: &[u8],
     out: &mut [u8],
-) -> i64 {
+) -> Result<usize, Refusal> {
     if !tag_length(m) {
-        return ARGUMENT;
+        return Err(Refusal::Argument);
     }
     if a.len() > 128 || c.len() > 128 + m {
-        return LONG;
+        return Err(Refusal::Long);
     }
     if c.len() < m {
-        return SHORT;
+        return Err(Refusal::Short);
     }
     let (d, given) = c.split_at(c.len() - m);
     if out.len() < d.len() {
-        return ROOM;
+        return Err(Refusal::Room);
     }
     let e = C::expand(key);
     let mut scratch = [0; 128];
@@ -295,10 +367,10 @@ fn open<C: Cipher>(
         .fold(0, |apart, (x, y)| apart | (x ^ y))
         != 0
     {
-        return FORGED;
+        return Err(Refusal::Forged);
     }
     out[..d.len()].copy_from_slice(plain);
-    d.len() as i64
+    Ok(d.len())
 }
 
 // ---- AES-MMO and the keyed hash
@@ -328,9 +400,9 @@ fn hash_from<C: Cipher>(h: &mut [u8; 16], before: usize, d: &[u8]) {
     hash_in::<C>(h, &b);
 }
 
-fn keyed_hash<C: Cipher>(key: &[u8; 16], d: &[u8], out: &mut [u8; 16]) -> i64 {
+fn keyed_hash<C: Cipher>(key: &[u8; 16], d: &[u8], out: &mut [u8; 16]) -> Result<usize, Refusal> {
     if d.len() > 240 {
-        return LONG;
+        return Err(Refusal::Long);
     }
     let behind = |x: u8, d: &[u8]| {
         let mut h = [0; 16];
@@ -339,7 +411,7 @@ fn keyed_hash<C: Cipher>(key: &[u8; 16], d: &[u8], out: &mut [u8; 16]) -> i64 {
         h
     };
     *out = behind(0x5c, &behind(0x36, d));
-    16
+    Ok(16)
 }
 
 // ---- for C
@@ -358,14 +430,14 @@ macro_rules! export {
             out: *mut u8,
             ol: usize,
         ) -> i64 {
-            seal::<$c>(
+            number(seal::<$c>(
                 m,
                 key,
                 nonce,
                 from_raw_parts(a, al),
                 from_raw_parts(p, pl),
                 from_raw_parts_mut(out, ol),
-            )
+            ))
         }
         #[no_mangle]
         pub unsafe extern "C" fn $open(
@@ -379,14 +451,14 @@ macro_rules! export {
             out: *mut u8,
             ol: usize,
         ) -> i64 {
-            open::<$c>(
+            number(open::<$c>(
                 m,
                 key,
                 nonce,
                 from_raw_parts(a, al),
                 from_raw_parts(c, cl),
                 from_raw_parts_mut(out, ol),
-            )
+            ))
         }
         #[no_mangle]
         pub unsafe extern "C" fn $hash(
@@ -395,10 +467,11 @@ macro_rules! export {
             dl: usize,
             out: &mut [u8; 16],
         ) -> i64 {
-            keyed_hash::<$c>(key, from_raw_parts(d, dl), out)
+            number(keyed_hash::<$c>(key, from_raw_parts(d, dl), out))
         }
     };
 }
 
-export!(Mul, mul_seal, mul_open, mul_keyed_hash);
+export!(Dbl, dbl_seal, dbl_open, dbl_keyed_hash);
+export!(Wrd, wrd_seal, wrd_open, wrd_keyed_hash);
 export!(Tab, tab_seal, tab_open, tab_keyed_hash);
