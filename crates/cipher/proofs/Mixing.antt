@@ -1,7 +1,7 @@
 -- FIPS 197, 5.1.3 by doubling and adding: {02} times an octet is its double (4.2.1), {03} times it the double and the octet.
 -- Assumes nothing.
 use mathlib.Core.Path.{_≡_, refl, sym, ap, ap₂, _∙_}
-use mathlib.Core.List.{List, [], _∷_}
+use mathlib.Core.List.{[], _∷_}
 use Prim.Native.Nat.{ℕ, _/_, _%_, _<_}
 use native.Mathlib.Omega.{arith}
 use lib.Bits.{bitXor}
@@ -11,7 +11,7 @@ use Rattle.octets.specs.Least.{spelled}
 use Rattle.cipher.specs.Field.{xtime, mulBits, mul}
 use Rattle.cipher.specs.Aes.{mixed, rotWord}
 use Rattle.cipher.specs.Code.{mixedColumn}
-use Rattle.cipher.proofs.Lanes.{added}
+use Rattle.cipher.proofs.Lanes.{spelled-sum}
 
 -- ---- all octets
 
@@ -44,6 +44,7 @@ module _ (x y z v : ℕ) (hx : x < 256) (hy : y < 256) (hz : z < 256) (hv : v < 
       ∷ bitXor (bitXor (bitXor (xtime v) (bitXor (xtime x) x)) y) z
       ∷ []
       ≡ mixedColumn (x ∷ y ∷ z ∷ v ∷ [])
+  unfolding mixedColumn
   rows-mixed =
       rw (mixed-doubled x y z v hx hy, mixed-doubled y z v x hy hz, mixed-doubled z v x y hz hv, mixed-doubled v x y z hv hx)
 
@@ -56,8 +57,8 @@ pub column-mixed : (w d n r s t : ℕ) → spelled 4 d ≡ tab 4 (λ j. xtime (a
     → spelled 4 (bitXor (bitXor (bitXor d n) s) t) ≡ mixedColumn (spelled 4 w)
 column-mixed w d n r s t ed en er es et =
     let third = es ∙ ap rotWord er in
-    added (bitXor (bitXor d n) s) t
-    (added (bitXor d n) s (added d n ed (en ∙ ap rotWord (added d w ed refl))) third)
+    spelled-sum (bitXor (bitXor d n) s) t
+    (spelled-sum (bitXor d n) s (spelled-sum d n ed (en ∙ ap rotWord (spelled-sum d w ed refl))) third)
     (et ∙ ap rotWord third)
     ∙ rows-mixed (w % 256) (w / 256 % 256) (w / 256 / 256 % 256) (w / 256 / 256 / 256 % 256) (omega arith) (omega arith) (omega arith)
     (omega arith)

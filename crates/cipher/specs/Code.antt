@@ -10,11 +10,11 @@ use Rattle.cipher.specs.Aes.{mixed, below}
 use Rattle.cipher.specs.Blocks.{twoOctets}
 
 -- the block that four words are, each held as the number that its octets spell
-unfoldable pub blockOf : List ℕ → List ℕ
+abbrev pub blockOf : List ℕ → List ℕ
 blockOf w = spelled 4 (at w 0) ++ (spelled 4 (at w 1) ++ (spelled 4 (at w 2) ++ spelled 4 (at w 3)))
 
 -- `mixColumns` of one column, of four octets
-abbrev pub mixedColumn : List ℕ → List ℕ
+unfoldable pub mixedColumn : List ℕ → List ℕ
 mixedColumn t = tab 4 (λ j. mixed (at t j) (below t j 1) (below t j 2) (below t j 3))
 
 -- the octets d with the padding of a string of which b octets, a multiple of 16, went before d

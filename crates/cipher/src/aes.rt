@@ -1,5 +1,5 @@
 // AES-128, as FIPS 197 has it: its names, its order. From round to round a state is four words, its
-// columns; that measured best (measure/README.md). The S-box and the shift of rows take its octets.
+// columns; that measured best (DECISIONS, ii-shape). The S-box and the shift of rows take its octets.
 use crate::words::add_words;
 use crate::words::block_of;
 use crate::words::doubled;

@@ -1,7 +1,7 @@
 // FIPS 197's words of four octets: the columns of a state (3.5) and the words of a round key (5.2). Each is
 // held as one number, its first octet lowest, and is known by the octets that spell it.
 ghost use mathlib.Core.Path.{_≡_};
-ghost use mathlib.Core.List.{[], _∷_, _++_};
+ghost use mathlib.Core.List.{[], _∷_};
 ghost use Prim.Native.Nat.{_<_};
 ghost use Rattle.octets.specs.Lists.{at, tab};
 ghost use Rattle.octets.specs.Least.{spelled};
@@ -36,9 +36,10 @@ pub(crate) fn words_of(b: [u8; 16]) -> [u32; 4]
     [x, y, z, v]
 }
 
-// The block of four words.
+// The block of four words. `octets::spelled4` called for each would ask, of all 16 octets, that the array
+// that it hands back has them.
 pub(crate) fn block_of(w: [u32; 4]) -> [u8; 16]
-    ensures { λ r. ⌜ r ≡ spelled 4 (at w 0) ++ (spelled 4 (at w 1) ++ (spelled 4 (at w 2) ++ spelled 4 (at w 3))) ⌝ }
+    ensures { λ r. ⌜ r ≡ blockOf w ⌝ }
 {
     let a = w[0];
     let b = w[1];

@@ -26,7 +26,7 @@ digits-grouped x y z hx hy hz =
 half-digit : (n : ℕ) → n % 2 < 2
 half-digit n = mod-lt n (lit< tt)
 
-pub xor-assoc : (a b c : ℕ) → bitXor (bitXor a b) c ≡ bitXor a (bitXor b c)
+xor-assoc : (a b c : ℕ) → bitXor (bitXor a b) c ≡ bitXor a (bitXor b c)
 xor-assoc a b c =
     bin-ind (λ (n : ℕ). (b c : ℕ) → bitXor (bitXor n b) c ≡ bitXor n (bitXor b c))
     (λ b c. ap (λ (x : ℕ). bitXor x c) (xor-zero-l b) ∙ sym (xor-zero-l (bitXor b c)))

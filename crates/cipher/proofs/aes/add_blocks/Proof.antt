@@ -2,7 +2,6 @@
 use mathlib.Core.Path.{ap₂, _∙_}
 use borrow.Author.Needs.{needs}
 use Rattle.cipher.specs.Aes.{addBlocks}
-use Rattle.cipher.specs.Code.{blockOf}
 use Rattle.cipher.proofs.aes.add_blocks.Statement.{statement}
 use Rattle.cipher.proofs.aes.add_blocks.Tie as tie
 
@@ -19,7 +18,6 @@ block-of-requires : tie.Need-block-of-requires
 block-of-requires c κs = search needs
 
 returns : tie.Need-returns
-unfolding blockOf
 returns c =
     c .block-of .ensures ∙ c .before .add-words .ensures
     ∙ ap₂ addBlocks (c .before .before .before .words-of .ensures) (c .before .before .words-of2 .ensures)

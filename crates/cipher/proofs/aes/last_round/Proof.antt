@@ -1,7 +1,6 @@
 -- The definition's three steps, of which the last adds words.
 use borrow.Author.Needs.{needs}
 use Rattle.cipher.specs.Aes.{lastRound}
-use Rattle.cipher.specs.Code.{blockOf}
 use Rattle.cipher.proofs.aes.last_round.Statement.{statement}
 use Rattle.cipher.proofs.aes.last_round.Tie as tie
 
@@ -18,7 +17,7 @@ block-of-requires : tie.Need-block-of-requires
 block-of-requires c κs = search needs
 
 returns : tie.Need-returns
-unfolding lastRound blockOf
+unfolding lastRound
 returns c = cc
 
 pub last-round-spec : {M : Type 1} → statement M

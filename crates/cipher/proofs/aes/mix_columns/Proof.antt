@@ -2,8 +2,8 @@
 use mathlib.Core.Path.{ap, _∙_}
 use borrow.Author.Needs.{needs}
 use Rattle.cipher.specs.Aes.{mixColumns}
-use Rattle.cipher.specs.Code.{blockOf, mixedColumn}
-use Rattle.cipher.proofs.Lanes.{four}
+use Rattle.cipher.specs.Code.{mixedColumn}
+use Rattle.cipher.proofs.Lanes.{append-four}
 use Rattle.cipher.proofs.aes.mix_columns.Statement.{statement}
 use Rattle.cipher.proofs.aes.mix_columns.Tie as tie
 
@@ -32,12 +32,12 @@ mix-column-requires-4 : tie.Need-mix-column-requires-4
 mix-column-requires-4 c κs = search needs
 
 returns : tie.Need-returns
-unfolding mixColumns blockOf
+unfolding mixColumns mixedColumn
 returns c =
     let column1 : tie.After-mix-column = search in
     let column2 : tie.After-mix-column2 = search in
     let column3 : tie.After-mix-column3 = search in
-    four (column1 .mix-column .ensures ∙ ap mixedColumn (column1 .before .word .ensures))
+    append-four (column1 .mix-column .ensures ∙ ap mixedColumn (column1 .before .word .ensures))
     (column2 .mix-column2 .ensures ∙ ap mixedColumn (column2 .before .word2 .ensures))
     (column3 .mix-column3 .ensures ∙ ap mixedColumn (column3 .before .word3 .ensures))
     (c .mix-column4 .ensures ∙ ap mixedColumn (c .before .word4 .ensures))

@@ -1,7 +1,7 @@
 -- Each word is added to the one made before it.
 use mathlib.Core.Path.{refl, _∙_}
 use borrow.Author.Needs.{needs}
-use Rattle.cipher.proofs.Lanes.{added, four}
+use Rattle.cipher.proofs.Lanes.{append-four, spelled-sum}
 use Rattle.cipher.proofs.aes.spread_word.Statement.{statement}
 use Rattle.cipher.proofs.aes.spread_word.Tie as tie
 
@@ -22,11 +22,12 @@ block-of-requires c κs = search needs
 
 returns : tie.Need-returns
 returns c =
-    let a = added _ _ (c .before .before .before .before .word .ensures) refl in
-    let b = added _ _ (c .before .before .before .word2 .ensures) a in
-    let d = added _ _ (c .before .before .word3 .ensures) b in
-    let e = added _ _ (c .before .word4 .ensures) d in
-    c .block-of .ensures ∙ four a b d e
+    let after-word : tie.After-word = search in
+    let a = spelled-sum _ _ (after-word .word .ensures) refl in
+    let b = spelled-sum _ _ (c .before .before .before .word2 .ensures) a in
+    let d = spelled-sum _ _ (c .before .before .word3 .ensures) b in
+    let e = spelled-sum _ _ (c .before .word4 .ensures) d in
+    c .block-of .ensures ∙ append-four a b d e
 
 pub spread-word-spec : {M : Type 1} → statement M
 spread-word-spec =

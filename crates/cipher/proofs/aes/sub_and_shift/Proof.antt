@@ -1,6 +1,5 @@
 -- The two steps, of the octets of the state.
 use borrow.Author.Needs.{needs}
-use Rattle.cipher.specs.Code.{blockOf}
 use Rattle.cipher.proofs.aes.sub_and_shift.Statement.{statement}
 use Rattle.cipher.proofs.aes.sub_and_shift.Tie as tie
 
@@ -14,7 +13,6 @@ shift-rows-requires : tie.Need-shift-rows-requires
 shift-rows-requires c κs = search needs
 
 returns : tie.Need-returns
-unfolding blockOf
 returns c = cc
 
 pub sub-and-shift-spec : {M : Type 1} → statement M

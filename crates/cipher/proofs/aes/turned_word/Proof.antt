@@ -36,12 +36,13 @@ word-of-requires c κs = search needs
 returns : tie.Need-returns
 unfolding turnedWord
 returns c =
+    let after-sub-byte : tie.After-sub-byte = search in
     c .word-of .ensures
     ∙ simp (
       c .before .sub-byte4 .ensures,
       c .before .before .sub-byte3 .ensures,
       c .before .before .before .sub-byte2 .ensures,
-      c .before .before .before .before .sub-byte .ensures,
+      after-sub-byte .sub-byte .ensures,
       xor-zero-r,
     )
 

@@ -55,7 +55,8 @@ returns-2 c =
     let start : tie.Start = search in
     let x = start .args in
     let else1 : tie.Else1 = search in
-    block-laid _ (x .d .now) (x .i) (length (x .d .now) - x .i) (c .before .paste-at2 .ensures) (omega (arith, else1 .if1 .left)) (omega arith)
+    block-laid _ (x .d .now) (x .i) (length (x .d .now) - x .i) (c .before .paste-at2 .ensures) (omega (arith, else1 .if1 .left))
+    (omega arith)
 
 pub block-from-spec : {M : Type 1} → statement M
 block-from-spec =

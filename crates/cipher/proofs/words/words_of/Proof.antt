@@ -5,8 +5,7 @@ use lib.ListN.{length}
 use borrow.Author.Needs.{needs}
 use Rattle.octets.proofs.Tabs.{tab-at}
 use Rattle.octets.specs.Lists.{at, tab}
-use Rattle.cipher.specs.Code.{blockOf}
-use Rattle.cipher.proofs.Lanes.{four}
+use Rattle.cipher.proofs.Lanes.{append-four}
 use Rattle.cipher.proofs.words.words_of.Statement.{statement}
 use Rattle.cipher.proofs.words.words_of.Tie as tie
 
@@ -23,12 +22,12 @@ word-requires-4 : tie.Need-word-requires-4
 word-requires-4 c κs = search needs
 
 returns : tie.Need-returns
-unfolding blockOf
 returns c =
     let start : tie.Start = search in
     let b = start .args .b in
     let long : length b ≡ 16 = search needs in
-    four (c .before .before .before .word .ensures) (c .before .before .word2 .ensures) (c .before .word3 .ensures) (c .word4 .ensures)
+    append-four (c .before .before .before .word .ensures) (c .before .before .word2 .ensures) (c .before .word3 .ensures)
+    (c .word4 .ensures)
     ∙ ap (λ (n : ℕ). tab n (at b)) (sym long)
     ∙ tab-at b
 
