@@ -174,7 +174,8 @@ static void full_frame(struct job *j) {
 
 /* Each refusal, of a copy of the job. */
 static void refusals(struct job j) {
-    u8 longer[SECURED + 1] = { 8 }, nobody[SECURED];
+    u8 longer[SECURED + 1] = { 8 }, nobody[SECURED], sequences[2] = { 0 }, keys[2][16] = { { 0 } };
+    struct after fresh;
     must(left_by_all(&j, (struct call){ 0, j.plain, PLAIN, SECURED - 1, ROWS }).answer == -1, "1 to seal");
     must(left_by_all(&j, (struct call){ 1, j.secured, SECURED, SECURED - 1, ROWS }).answer == -1, "1 to open");
     must(left_by_all(&j, (struct call){ 1, j.secured, SECURED, ROOM, ROWS - 1 }).answer == -1, "1 of the lists");
@@ -198,6 +199,9 @@ static void refusals(struct job j) {
     must(opening(&j, j.secured, SECURED) == -10 && changed(&j, SECURED - 1, 1, 1) == -9, "10");
     j.counter = UINT32_MAX;
     must(sealing(&j, j.plain, PLAIN) == -7, "7 to seal");
+    board__state__make(&fresh, j.board.own), j.board = fresh.board;
+    j.rust = rust_board(j.board.own, sequences, keys, 2); /* there is no slot 2 to be active */
+    must(sealing(&j, j.plain, PLAIN) == -6, "6 to seal");
 }
 
 static uint32_t any(uint32_t below) {
