@@ -107,6 +107,12 @@ def against_package():
     return f"{BLOCKS} AES blocks and {CASES} CCM cases agree with package cryptography"
 
 
+def empty_lists(rng):
+    """Two empty lists of some length that is allowed."""
+    rows = 2 * rng.randint(tables.LEAST_ROWS // 2, tables.MOST_ROWS // 2)
+    return [0] * rows, [0] * rows
+
+
 def two_boards(rng, network_key, link_key):
     """A board that seals and one that opens, with the same keys, the first with some counter."""
     boards = []
@@ -114,7 +120,7 @@ def two_boards(rng, network_key, link_key):
     number = rng.randrange(256)
     for address, partner in ((own, other), (other, own)):
         board = tables.made_board(address)
-        tables.install(board, [0] * tables.ROWS, [0] * tables.ROWS, 0, number, network_key)
+        tables.install(board, *empty_lists(rng), 0, number, network_key)
         tables.switch(board, number)
         tables.add_link(board, partner, link_key)
         boards.append(board)
@@ -130,13 +136,13 @@ def their_frame(cipher, sealing, header, control, end, payload):
     return header + bytes([control]) + fields + end + text
 
 
-def network_beside(cipher, sealing, board, payload):
+def network_beside(cipher, lists, sealing, board, payload):
     """A network frame sealed beside the package, then opened."""
     theirs = their_frame(cipher, sealing, b"\x48\x02" + bytes(6), 0x28,
                          bytes([board.slots[0].number]), payload)
     plain = b"\x48\x00" + bytes(6) + payload
     same("network frame sealed", opening.seal_network(sealing, 116, plain), theirs)
-    given = opening.open_network(board, [0] * 64, [0] * 64, 116, theirs)
+    given = opening.open_network(board, *lists, 116, theirs)
     same("network frame opened", given, (sealing.own, 1, plain))
 
 
@@ -159,7 +165,7 @@ def frames_against_package():
     for i in range(FRAMES):
         network_key, link_key, payload = rng.randbytes(16), rng.randbytes(16), rng.randbytes(i % 84)
         sealing, board = two_boards(rng, network_key, link_key)
-        network_beside(AESCCM(network_key, tag_length=4), sealing, board, payload)
+        network_beside(AESCCM(network_key, tag_length=4), empty_lists(rng), sealing, board, payload)
         identifier = (0, 2, 3)[i % 3]
         over = {2: b"\x00", 3: b"\x02"}.get(identifier)
         octets = link_key if over is None else mmo.keyed(link_key, over)

@@ -1,14 +1,14 @@
 """The desk of the program `bench`: one board, its stored lists, and what is lent.
 
 The bench language, "Lines", "Stale or forged", its table and the lines that document 02 brings;
-DECISIONS, "The bench language".
+DECISIONS, "The bench language" and iii-row-numbers.
 """
 
 from .. import lines
 from ..model import commands, mmo, opening, tables
 
 STORED_ROWS = 1024
-LENT = (116, tables.ROWS, tables.ROWS)
+LENT = (116, 64, 64)  # at first: octets of output, addresses, floors
 LENT_MOST = (256, STORED_ROWS, STORED_ROWS)
 
 FRAME = lines.hex_field(0, 256)
@@ -107,10 +107,12 @@ class Desk:
         return board.outgoing, board.aps, "-" if board.active is None else board.active
 
     def heard(self, slot):
-        """The used rows of a slot."""
-        for row in tables.rows_of(slot):
-            if self.addresses[row]:
-                yield from (row, lines.address(self.addresses[row]), self.floors[row])
+        """The used rows of a slot of the lent lists, which alone are judged."""
+        addresses, floors = self.lent_lists()
+        tables.judge_lists(addresses, floors)
+        for row in tables.rows_of(addresses, slot):
+            if addresses[row]:
+                yield from (row, lines.address(addresses[row]), floors[row])
 
     def links(self):
         """The present link entries."""
@@ -120,12 +122,16 @@ class Desk:
 
     # ---- keys and frames ----
 
+    def lent_lists(self):
+        """The lent part of the lists, apart from what is stored."""
+        _, a, f = self.lent
+        return self.addresses[:a], self.floors[:f]
+
     def on_lists(self, request):
         """The request's answer on the lent part of the lists; a refusal changes nothing of them."""
-        _, a, f = self.lent
-        addresses, floors = self.addresses[:a], self.floors[:f]
+        addresses, floors = self.lent_lists()
         given = request(addresses, floors)
-        self.addresses[:a], self.floors[:f] = addresses, floors
+        self.addresses[:len(addresses)], self.floors[:len(floors)] = addresses, floors
         return given
 
     def install(self, slot, number, key):

@@ -10,8 +10,8 @@ from .tools import (ALL_ONES, COMMAND_HEADER, GENUINE, NETWORK_HEADER, OWN, Stat
 
 SENDERS = [0x00124B0000000100 + i for i in range(40)]
 STRANGER = 0x00124B00DEADBEEF
-LISTS = ((116, 63, 64), (116, 64, 63), (116, 65, 64), (116, 64, 65), (116, 0, 0), (116, 1024, 1024),
-         (116, 128, 128), (256, 32, 32))
+LISTS = ((116, 63, 64), (116, 64, 63), (116, 65, 64), (116, 64, 65), (116, 0, 0), (116, 1024, 1022),
+         (116, 128, 64), (256, 33, 33))
 
 
 def hear(bench, octets, number, sender, counter):
@@ -220,7 +220,7 @@ def add_forget(bench):
 
 
 def add_lists(bench):
-    """Lists not of 64 rows."""
+    """Lists of lengths that are not allowed; halls.py has every other length."""
     bench.group("RULES 2.6: install and forget judge the lists before all else")
     bench.board()
     bench.network(0, 1, key(1))
@@ -236,7 +236,7 @@ def add_lists(bench):
         forget(bench, 0, 0, no(1))
         forget(bench, 0, SENDERS[0], no(1))
         bench.open(frame, no(1))
-    bench.group("the others don't judge them")
+    bench.group("the others don't judge them, but for heard (DECISIONS, iii-row-numbers)")
     switch(bench, 1)
     bench.link(STRANGER, key(3))
     bench.seal(NETWORK_HEADER, ok(network_frame(key(1), 1, OWN, 0)))
@@ -244,8 +244,9 @@ def add_lists(bench):
     bench.open_aps(0, aps_frame(key(3), 0, STRANGER, 1), opened(STRANGER, 0, COMMAND_HEADER))
     bench.add("unlink", address(STRANGER), expect="ok")
     bench.add("write", "ack", "request4", expect=ok("41000804"))
-    bench.heard(0, (0, SENDERS[0], 6))
+    bench.add("heard", 0, expect=no(1))
     bench.lend()
+    bench.heard(0, (0, SENDERS[0], 6))
     bench.open(frame, opened(SENDERS[0], 1, NETWORK_HEADER + b"\x09"))
 
 

@@ -143,8 +143,13 @@ def add_kept_lends(bench):
     frame = network_frame(key(1), 3, OTHER, 5)
     bench.open(frame, opened(OTHER, 1, NETWORK_HEADER))
     bench.lend(0, 0, 0)
-    bench.group("DECISIONS, heard-stored-rows: heard shows the stored rows, lent or not")
+    bench.group("DECISIONS, iii-row-numbers: heard goes by the lent lists and judges them alone; "
+                "bad-or-refused: 2 is bad whatever is lent")
+    for slot, expect in ((0, no(1)), (1, no(1)), (2, "bad"), (255, "bad")):
+        bench.add("heard", slot, expect=expect)
+    bench.lend(0, 64, 64)
     bench.heard(0, (0, OTHER, 6))
+    bench.add("heard", 2, expect="bad")
     bench.lend(256, 1024, 1024)
     bench.heard(0, (0, OTHER, 6))
     bench.lend()

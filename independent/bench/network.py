@@ -260,7 +260,7 @@ def add_orders(bench):
     bench.group("open: 1 before 2, lists too (DECISIONS, lists-before-frame: also for an unsecured "
                 "frame)")
     for lent in ((115, 64, 64), (0, 64, 64), (116, 63, 64), (116, 64, 63), (116, 65, 65),
-                 (256, 1024, 1024)):
+                 (256, 1024, 1022)):
         bench.lend(*lent)
         for frame in (bytes(117), b"", NETWORK_HEADER, good):
             bench.open(frame, no(1))

@@ -1,9 +1,12 @@
 """The script of `bench`: a joining out of source document 001, and play by chance.
 
 Source document 001 (12.8, TP/R21/BV-08) gives addresses and keys. In the play every genuine frame
-and every replay has the answer that its maker expects; what altered, cut and odd frames get is the
-model's answer.
+and every replay has the answer that its maker expects, but where lists of another length are lent
+for a while and a new frame may find no room; what altered, cut and odd frames get is the model's
+answer.
 """
+
+from itertools import cycle
 
 from ..lines import Chance, address, flip, ok, run_of, sure
 from ..model import mmo, opening
@@ -15,6 +18,7 @@ CENTRE, ROUTER, END = 0xAAAAAAAAAAAAAAAA, 0x0000000100000000, 0x0000000000000001
 NETWORK_KEY = bytes.fromhex("abcdef01234567890000000000000000")
 TO_CENTRE = bytes.fromhex("48000000083c1e11")
 TO_ROUTER = bytes.fromhex("4800083c00001e22")
+HALLS = (66, 4, 1022, 24, 128, 2, 64, 16, 1024, 62)  # lengths that the play lends in turn
 
 
 # ---- a joining ---------------------------------------------------------------------------------
@@ -102,11 +106,12 @@ def add_joining(bench):
 class Play:
     """A board on the desk among stations, all with the same network keys."""
 
-    def __init__(self, bench, seed, stations):
-        self.bench, self.chance = bench, Chance(seed)
+    def __init__(self, bench, seed, stations, rows, halls):
+        self.bench, self.chance, self.rows, self.halls = bench, Chance(seed), rows, halls
         self.keys, self.numbers, self.active = [None, None], [0, 0], 0
         self.serial = 30
         self.past = []  # lines that opened: word and fields, while their keys stay
+        bench.hall(rows)
         bench.board(OWN, self.chance.below(2**32 - 10**6))
         self.stations = [Station(0x00124B0000001000 + 16 * i, self.chance.below(2**31))
                          for i in range(stations)]
@@ -285,16 +290,35 @@ class Play:
     def short_lend(self):
         """A lend under which nothing opens, and back."""
         station = self.chance.pick(self.stations)
-        self.bench.lend(*self.chance.pick(((115, 64, 64), (116, 63, 64), (256, 64, 65))))
+        lent = self.chance.pick(((115, 64, 64), (116, 63, 64), (256, 64, 65)))
+        self.bench.lend(*lent)
         self.bench.open(station.seal(self.network_plain()), no(1))
-        self.bench.lend()
+        self.bench.add("heard", self.chance.below(2), expect=no(1) if lent[1] != lent[2] else None)
+        self.bench.hall(self.rows)
+
+    def other_hall(self):
+        """Lists of another length, where a station's new frame opens or finds no room; then new
+        keys, which free all the rows that are lent from then on."""
+        rows = next(self.halls)
+        self.bench.hall(rows)
+        for _ in range(3):
+            station, plain = self.chance.pick(self.stations), self.network_plain()
+            answer = self.bench.open(station.seal(plain))
+            sure(answer in (opened(station.own, 1, plain), no(10)),
+                 "a new frame neither opens nor finds the slot full", plain.hex(), answer)
+        self.bench.add("heard", self.chance.below(2))
+        if rows // 2 >= len(self.stations):
+            self.rows = rows
+        self.bench.hall(self.rows)
+        for slot in (1, 0):
+            self.new_network(slot)
 
     def go(self, rounds):
         """So many rounds, most of them genuine frames."""
-        actions = ([self.genuine_network] * 10 + [self.genuine_aps] * 9 + [self.replay] * 4
-                   + [self.altered] * 5 + [self.odd] * 2 + [self.sealing] * 4
-                   + [self.tunnelling] + [self.keys_change] * 2 + [self.looks]
-                   + [self.short_lend])
+        actions = ([self.genuine_network] * 20 + [self.genuine_aps] * 18 + [self.replay] * 8
+                   + [self.altered] * 10 + [self.odd] * 4 + [self.sealing] * 8
+                   + [self.tunnelling] * 2 + [self.keys_change] * 4 + [self.looks] * 2
+                   + [self.short_lend] * 2 + [self.other_hall])
         for _ in range(rounds):
             self.chance.pick(actions)()
         self.bench.add("state")
@@ -303,6 +327,10 @@ class Play:
 def add_play(bench):
     """All of this file."""
     add_joining(bench)
-    for seed, stations, rounds in ((3001, 8, 400), (3002, 30, 400), (3003, 12, 400)):
-        bench.group(f"play by chance, {stations} stations, {rounds} rounds, seed {seed}")
-        Play(bench, seed, stations).go(rounds)
+    halls = cycle(HALLS)
+    for seed, stations, rows, rounds in ((3001, 8, 64, 400), (3002, 30, 62, 400),
+                                         (3003, 12, 1024, 400)):
+        bench.group(f"play by chance, {stations} stations, lists of {rows} rows at first, "
+                    f"{rounds} rounds, seed {seed}")
+        Play(bench, seed, stations, rows, halls).go(rounds)
+    bench.lend()

@@ -1,13 +1,15 @@
 """Puts the script of `bench` together, and checks that it shows what it must.
 
 Document 01, the table of refusals and their orders: which line can be refused with which number;
-document 02 (i) and the bench language for `route`.
+document 02 (i) and the bench language for `route`, 02 (iii) and that language for `heard`.
 """
 
 from ..lines import refused, sure
 from ..model.commands import KINDS
 from .aps import add_aps
 from .commands import add_commands
+from .desk import LENT
+from .halls import LENGTHS, REFUSED, add_halls
 from .keys import add_keys
 from .line_forms import add_bad_lines, add_desk, add_fine, add_last, add_without_board
 from .network import add_network
@@ -34,10 +36,12 @@ REFUSALS = {  # every number that a line can be refused with
     "hash": set(),       # 257 octets are bad before they are too long
     "keyedhash": {2},
     "state": set(),
-    "heard": set(),
+    "heard": {1},
     "links": set(),
 }
-LEAST_LINES, MOST_LINES = 6000, 9000
+JUDGING = ("network", "forget", "open", "heard")  # the lines that judge the lists
+NOT_JUDGING = ("switch", "link", "unlink", "openaps", "seal", "sealaps", "write", "state", "links")
+LEAST_LINES, MOST_LINES = 8000, 10500
 
 
 def outcomes(bench):
@@ -67,6 +71,25 @@ def check_outcomes(bench):
     found = {outcome for outcome in outcomes(bench) if outcome[0] in REFUSALS}
     sure(found == set(wanted()), "outcomes missed, or met and not allowed",
          sorted(map(str, found ^ set(wanted()))))
+
+
+def check_halls(bench):
+    """With every length of lists that halls.py names, and enough output: the lines that judge lists
+    answer 1 where the lists are not allowed, and only there; the others don't."""
+    lent, met = LENT, set()
+    for line, answer in bench.given:
+        word, *fields = line.split(b"\t")
+        if word == b"lend" and answer == "ok":
+            lent = tuple(int(field) for field in fields)
+        elif lent[0] >= LENT[0] and answer != "bad":
+            met.add((word.decode("latin-1"), lent[1:], answer == refused(1)))
+    lists = {(rows, rows): False for rows in LENGTHS} | dict.fromkeys(REFUSED, True)
+    wanted_verdicts = {(word, rows, no) for word in JUDGING for rows, no in lists.items()}
+    wanted_verdicts |= {(word, rows, False) for word in NOT_JUDGING for rows in REFUSED}
+    missed = wanted_verdicts - met
+    sure(not missed, "a line is not shown with lists of some length", sorted(missed))
+    wrong = {(word, rows, not no) for word, rows, no in wanted_verdicts} & met
+    sure(not wrong, "lists are judged otherwise", sorted(wrong))
 
 
 def check_commands(bench):
@@ -118,9 +141,9 @@ def check_shares(bench):
 def make_script():
     """The whole script."""
     bench = Bench()
-    for add in (add_without_board, add_desk, add_bad_lines, add_fine, add_keys, add_network,
-                add_aps, add_commands, add_tunnels, add_play, add_last):
+    for add in (add_without_board, add_desk, add_bad_lines, add_fine, add_keys, add_halls,
+                add_network, add_aps, add_commands, add_tunnels, add_play, add_last):
         add(bench)
-    for check in (check_outcomes, check_commands, check_routing, check_shares):
+    for check in (check_outcomes, check_halls, check_commands, check_routing, check_shares):
         check(bench)
     return bench

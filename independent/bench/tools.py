@@ -7,7 +7,7 @@ together here from document 01, "The auxiliary header and the nonce".
 from .. import lines
 from ..lines import address, ok
 from ..model import ccm, mmo, opening, tables
-from .desk import Desk
+from .desk import LENT, Desk
 
 ALL_ONES = 2**64 - 1
 TOP = 2**32 - 1
@@ -80,9 +80,13 @@ class Bench(lines.Script):
         """Installs a network key."""
         self.add("network", slot, number, octets, expect=expect)
 
-    def lend(self, output=116, addresses=64, floors=64):
+    def lend(self, output=LENT[0], addresses=LENT[1], floors=LENT[2]):
         """Lends so much; without arguments what is lent at first."""
         self.add("lend", output, addresses, floors, expect="ok")
+
+    def hall(self, rows):
+        """Lends two lists of so many rows."""
+        self.lend(LENT[0], rows, rows)
 
     def link(self, partner, octets, expect="ok"):
         """Adds a link key."""
@@ -129,7 +133,7 @@ class Station:
         self.own = own
         self.board = tables.made_board(own)
         self.board.outgoing = counter
-        self.lists = [0] * tables.ROWS, [0] * tables.ROWS
+        self.lists = [0] * LENT[1], [0] * LENT[2]
 
     def install(self, slot, number, octets):
         """Installs a network key and makes it the active one."""

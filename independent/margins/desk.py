@@ -1,7 +1,7 @@
 """The desk of the program `margins`: what a call leaves in what it was lent, refusals too.
 
 The language of `margins`. Every line is answered on the same board, made anew for it, with the same
-lists and an output of octets EE.
+lists (for `hall` of the lengths that it tells) and an output of octets EE.
 """
 
 from dataclasses import dataclass, field
@@ -12,6 +12,8 @@ from ..model import commands, mmo, opening, tables
 
 FRAME = lines.hex_field(0, 512)
 SIZE = lines.decimal_field(256)
+LENGTH = lines.decimal_field(1026)
+ROWS = (64, 64)  # addresses and floors of every line but `hall`
 LINK_KEYS = bytes(range(0x20, 0x30)), bytes(range(0x30, 0x40))
 
 
@@ -28,23 +30,27 @@ def made_board():
     return board
 
 
-def made_addresses():
-    """The list of senders: row 0, and all rows of slot 1."""
-    return [0xB1] + [0] * 31 + [0xC00 + row for row in tables.rows_of(1)]
+def made_row(row, half):
+    """Sender and floor of a row: row 0 and every row from half on have one."""
+    if row == 0:
+        return 0xB1, 100
+    return (0xC00 + row, 1) if row >= half else (0, 0)
 
 
-def made_floors():
-    """The list of floors."""
-    return [100] + [0] * 31 + [1] * 32
+def made_lists(addresses, floors):
+    """So many senders and so many floors; half is that of the first."""
+    half = addresses // 2
+    return ([made_row(row, half)[0] for row in range(addresses)],
+            [made_row(row, half)[1] for row in range(floors)])
 
 
 @dataclass
 class Lent:
-    """An output, and the board and lists made anew."""
+    """An output, and the lists and the board made anew."""
     output: bytes
+    addresses: list
+    floors: list
     board: tables.Board = field(default_factory=made_board)
-    addresses: list = field(default_factory=made_addresses)
-    floors: list = field(default_factory=made_floors)
 
     def put(self, frame):
         """Lays a frame over the start of the output; its length."""
@@ -89,7 +95,7 @@ def writer(word, acknowledged):
 
 def changed_rows(lent):
     """Each row that is not as it was."""
-    before = zip(made_addresses(), made_floors())
+    before = zip(*made_lists(len(lent.addresses), len(lent.floors)))
     for row, now in enumerate(zip(lent.addresses, lent.floors)):
         if now != next(before):
             yield from (row, lines.address(now[0]), now[1])
@@ -119,8 +125,8 @@ def shown(*fields):
 
 def on_board(request, left):
     """The action that answers a request and shows the output and what else it left."""
-    def act(size, *arguments):
-        lent = Lent(b"\xee" * size)
+    def act(size, *arguments, rows=ROWS):
+        lent = Lent(b"\xee" * size, *made_lists(*rows))
         try:
             verdict = lines.ok(*request(lent, *arguments))
         except lines.Refused as refusal:
@@ -155,8 +161,11 @@ def part(name):
     return (protection_field, FRAME), asked(lambda command: command.part(name))
 
 
+OPEN = on_board(open_network, changed_rows)
 WORDS = {
-    b"open": ((SIZE, FRAME), on_board(open_network, changed_rows)),
+    b"open": ((SIZE, FRAME), OPEN),
+    b"hall": ((SIZE, LENGTH, LENGTH, FRAME),
+              lambda size, a, f, frame: OPEN(size, frame, rows=(a, f))),
     b"openaps": ((SIZE, ADDRESS, FRAME), on_board(open_aps, link_floors)),
     b"seal": ((SIZE, FRAME), on_board(seal_network, outgoing)),
     b"sealaps": ((SIZE, ADDRESS, OCTET, FRAME), on_board(seal_aps, outgoing)),

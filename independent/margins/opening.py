@@ -76,10 +76,10 @@ def add_open_rows(script):
         script.once("open", network(STRANGER, 5), gives=heard(NETWORK_HEADER, STRANGER, 5, 1))
 
 
-def add_open_refusals(script):
-    """Each refusal of network opening: a first frame with many outputs, then others."""
+def network_refusals():
+    """Each refusal of network opening: its number, what is shown, a first frame and others."""
     good = network(B1, 150, run_of(30))
-    cases = (
+    return (
         (2, "over 116 octets, genuine or not", network(B1, 150, run_of(91)),
          (NETWORK_HEADER + run_of(109), run_of(512))),
         (3, "M12: 25 octets; and other cuts (DECISIONS, unsecured-header)",
@@ -103,7 +103,11 @@ def add_open_refusals(script):
         (10, "slot 1 is full, a genuine stranger", network(STRANGER, 150, run_of(30), number=6),
          (network(STRANGER, 0, number=6), network(B1, 100, run_of(90), number=6))),
     )
-    for number, title, first, others in cases:
+
+
+def add_open_refusals(script):
+    """Each refusal of network opening: a first frame with many outputs, then others."""
+    for number, title, first, others in network_refusals():
         script.group(f"open, {number}: {title}")
         script.mostly("open", first, gives=number)
         for frame in others:

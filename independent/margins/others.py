@@ -4,7 +4,7 @@ from ..bench.aps import HEADERS
 from ..bench.network import ODD_HEADERS
 from ..bench.tools import NETWORK_HEADER
 from ..lines import Chance, address, flip, ok, refused, run_of
-from .opening import aps, heard, heard_aps, network
+from .opening import aps, copied, heard, heard_aps, network
 from .tools import A1, A2, B1, ROOMS, STRANGER, laid
 
 
@@ -37,13 +37,36 @@ def add_chance(script):
                    gives=9 if forged else heard_aps(header + payload, sender, counter, identifier))
 
 
+def add_hall_chance(script):
+    """Lists of any even length, then of any other, and frames of both slots."""
+    script.group("by chance: lists of any even length; the same with a row more, of floors or both")
+    chance = Chance(3002)
+    for _ in range(12):
+        rows = 2 + 2 * chance.below(512)
+        row, counter = rows // 2 + chance.below(rows // 2), 100 + chance.below(10**9)
+        sender, row, number = chance.pick(((B1, 0, 5), (STRANGER, 1, 5), (0xC00 + row, row, 6),
+                                           (0xC00 + row, row, 6)))
+        payload = run_of(chance.below(20), chance.below(256))
+        frame = network(sender, counter, payload, number)
+        room = chance.pick(ROOMS[4:])
+        script.ask(room, "hall", rows, rows, frame,
+                   gives=10 if number == 5 and row == rows // 2
+                   else heard(NETWORK_HEADER + payload, sender, counter, row))
+        script.ask(room, "hall", rows + chance.below(2), rows + 1, frame, gives=1)
+        script.ask(room, "hall", rows, rows, NETWORK_HEADER, gives=copied(NETWORK_HEADER))
+
+
 # ---- bad and odd lines -------------------------------------------------------------------------
 
 def add_bad(script):
     """Lines that are not the language's."""
     script.group("bad: a field of each word, malformed or beyond its range")
     device, frame = address(A1), "413e"
-    for line in (("open", 257, frame), ("openaps", 116, device[1:], frame), ("seal", "0116", frame),
+    for line in (("open", 257, frame), ("hall", 257, 64, 64, frame), ("hall", 116, 1027, 64, frame),
+                 ("hall", 116, 64, 1027, frame), ("hall", 116, "064", 64, frame),
+                 ("hall", 116, 64, "", frame), ("hall", 116, 65600, 64, frame),
+                 ("hall", 116, 64, "-64", frame), ("hall", 116, 64, 64, bytes(513)),
+                 ("openaps", 116, device[1:], frame), ("seal", "0116", frame),
                  ("sealaps", 116, device, 256, frame), ("remove", 116, device + "00"),
                  ("tunnel", 116, device, bytes(513)), ("down", "", frame), ("hash", bytes(513)),
                  ("keyedhash", "4g"), ("key", 256, frame), ("digest", "None", frame),
@@ -52,7 +75,9 @@ def add_bad(script):
                  ("payload", "none", "413g"), ("tag", 256, frame)):
         script.add(*line, expect="bad")
     script.group("bad: a field less or more, other words, blanks")
-    for line in ("open\t116", "remove\t116\t00000000000000a1\t", "hash", "value\tnone\t413e",
+    for line in ("open\t116", "hall\t116\t64\t413e", "hall\t116\t64\t64\t413e\t",
+                 "hall\t116\t413e", "hall\t64\t64\t413e", "Hall\t116\t64\t64\t413e",
+                 "remove\t116\t00000000000000a1\t", "hash", "value\tnone\t413e",
                  "header\tnone", "auxiliary\t413e", "payload\tnone\t413e\t", "tag\tnone\t0\t413e",
                  "route\tnone\t413e", "Tag\tnone\t413e",
                  "Open\t116\t413e", "up\t116\t", "hash\t00 ", "board"):

@@ -6,20 +6,23 @@ name of an entry in docs/DECISIONS.md follows.
 
 from ..lines import lines_of, sure
 from .commands import COMMANDS, FRONT, INNER_PARTS, PARTS, add_parts, add_values, add_writing
+from .halls import LENGTHS, REFUSED_LISTS, add_halls
 from .hashes import add_hashes
 from .opening import (add_open, add_open_aps, add_open_aps_forged, add_open_aps_refusals,
                       add_open_forged, add_open_refusals)
-from .others import add_bad, add_chance, add_fine
+from .others import add_bad, add_chance, add_fine, add_hall_chance
 from .sealing import add_seal, add_seal_aps
 from .tools import LEAST, LEAST_LINES, MOST_LINES, REFUSALS, ROOMS, STAYS, Margins
+
+OPENING = ("open", "hall", "openaps")  # three fields before the output
 
 
 def make_script():
     """The whole script."""
     script = Margins()
-    for add in (add_open, add_open_refusals, add_open_forged, add_open_aps, add_open_aps_refusals,
-                add_open_aps_forged, add_seal, add_seal_aps, add_writing, add_parts, add_values,
-                add_hashes, add_chance, add_bad, add_fine):
+    for add in (add_open, add_open_refusals, add_open_forged, add_halls, add_open_aps,
+                add_open_aps_refusals, add_open_aps_forged, add_seal, add_seal_aps, add_writing,
+                add_parts, add_values, add_hashes, add_chance, add_hall_chance, add_bad, add_fine):
         add(script)
     answered = {n for n, line in enumerate(script.lines, 1) if line and not line.startswith(b"#")}
     sure(set(script.expected) == answered, "lines without an expected answer",
@@ -49,13 +52,14 @@ def check_outcomes(given):
 
 def check_outputs(given):
     """A refusal leaves an output of EE and all else as it was; a success, EE behind the frame.
-    Every number that a word can give is met with every output that allows it."""
+    Every number that a word can give is met with every output that allows it; 1 with every output
+    by `hall`, whose lists may be the cause."""
     met = set()
     for (word, *fields), (kind, *answer) in given:
         if word not in LEAST or kind == "bad":
             continue
         room = int(fields[0])
-        output = answer[{"refused": 2, "ok": 3 if word.startswith("open") else 1}[kind]]
+        output = answer[{"refused": 2, "ok": 3 if word in OPENING else 1}[kind]]
         if kind == "refused":
             sure(answer[2:] == ["ee" * room, *map(str, STAYS[word])],
                  "a refusal changes something", word, fields)
@@ -66,7 +70,31 @@ def check_outputs(given):
         met.add((word, room, int(answer[0]) if kind == "refused" else 0))
     wanted = {(word, room, number) for word in LEAST for room in ROOMS
               for number in ({1} if room < LEAST[word] else REFUSALS[word] - {1} | {0})}
+    wanted |= {("hall", room, 1) for room in ROOMS}
     sure(met == wanted, "outcomes missed, or met and not allowed", sorted(met ^ wanted))
+
+
+def check_halls(given):
+    """Lists of every length that halls.py names: 1 where they are not allowed, whatever the output;
+    else frames open in both halves, and 8, 9 and 10 are met. Lists of 64 rows answer as `open`."""
+    met, alike = {}, 0
+    opened = {tuple(fields[1:]): answer for fields, answer in given if fields[0] == "open"}
+    for (word, *fields), answer in given:
+        if word != "hall" or answer[0] == "bad":
+            continue
+        room, *rows, frame = fields
+        verdicts = met.setdefault(tuple(map(int, rows)), set())
+        if int(room) >= LEAST[word]:
+            verdicts.add(int(answer[1]) if answer[0] == "refused" else 0)
+        if rows == ["64", "64"] and (room, frame) in opened:
+            sure(opened[room, frame] == answer, "`open` answers otherwise", fields)
+            alike += 1
+    sure(alike >= 40, "lines that `open` answers too are too few", alike)
+    for rows in REFUSED_LISTS:
+        sure(met.get(rows) == {1}, "lists that are not allowed", rows, met.get(rows))
+    for rows in LENGTHS:
+        found = met.get((rows, rows), set())
+        sure(1 not in found and {0, 8, 9, 10} <= found, "lists that are allowed", rows, found)
 
 
 def check_parts(given):
@@ -99,4 +127,5 @@ def check(files):
     given = list(pairs(files))
     check_outcomes(given)
     check_outputs(given)
+    check_halls(given)
     check_parts(given)

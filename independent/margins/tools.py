@@ -8,7 +8,7 @@ from dataclasses import dataclass
 from ..lines import Script, ok, refused
 
 ROOMS = (0, 1, 107, 108, 115, 116, 117, 200, 256)
-LEAST_LINES, MOST_LINES = 600, 1000
+LEAST_LINES, MOST_LINES = 800, 1600
 
 # The board of every line.
 OWN, OUTGOING, APS_COUNTER = 2, 7, 255
@@ -19,12 +19,13 @@ LINKS = {A1: bytes.fromhex("202122232425262728292a2b2c2d2e2f"),
          A2: bytes.fromhex("303132333435363738393a3b3c3d3e3f")}
 B1, STRANGER = 0xB1, 0x00124B00AABBCCDD                           # row 0 with floor 100; no row
 
-LEAST = {"open": 116, "openaps": 116, "seal": 116, "sealaps": 116, "remove": 108, "tunnel": 108,
-         "down": 108}
-STAYS = {"open": (), "openaps": (100, 0), "seal": (OUTGOING,), "sealaps": (OUTGOING,),
+LEAST = {"open": 116, "hall": 116, "openaps": 116, "seal": 116, "sealaps": 116, "remove": 108,
+         "tunnel": 108, "down": 108}
+STAYS = {"open": (), "hall": (), "openaps": (100, 0), "seal": (OUTGOING,), "sealaps": (OUTGOING,),
          "remove": (APS_COUNTER,), "tunnel": (APS_COUNTER,), "down": (APS_COUNTER,)}
 REFUSALS = {  # every number that a line can be refused with on this board
     "open": {1, 2, 3, 4, 5, 6, 7, 8, 9, 10},
+    "hall": {1, 2, 3, 4, 5, 6, 7, 8, 9, 10},
     "openaps": {1, 2, 3, 4, 5, 6, 7, 8, 9},
     "seal": {1, 2, 3, 4},                # a slot is active (6) and the counter is 7 (7)
     "sealaps": {1, 2, 3, 4, 6, 14},

@@ -1,15 +1,15 @@
 """The board's state and the requests that change keys.
 
-Document 01, "The state and the lists" and "Requests that change keys"; DECISIONS,
-freed-row, install-14-first, forget-without-key and unlink-zero.
+Document 01, "The state and the lists" and "Requests that change keys"; document 02 (iii) for the
+lengths of the lists; DECISIONS, freed-row, install-14-first, forget-without-key, unlink-zero,
+iii-row-numbers and iii-other-length.
 """
 
 from dataclasses import dataclass, field
 
 from ..lines import Refused, refuse_if
 
-ROWS = 64        # rows of a list, half of them for each slot
-SLOT_ROWS = 32
+LEAST_ROWS, MOST_ROWS = 2, 1024  # of a list
 SLOTS = 2
 LINKS = 8
 ALL_ONES = 2**64 - 1
@@ -56,8 +56,9 @@ def made_board(own):
 
 
 def judge_lists(addresses, floors):
-    """1 if a list is not of 64 rows."""
-    refuse_if(len(addresses) != ROWS or len(floors) != ROWS, 1)
+    """1 unless both lists have one length, an even one from 2 to 1,024."""
+    rows = len(addresses)
+    refuse_if(len(floors) != rows or rows % SLOTS or not LEAST_ROWS <= rows <= MOST_ROWS, 1)
 
 
 def lowest(places, fits):
@@ -70,9 +71,10 @@ def lowest(places, fits):
 
 # ---- network keys ------------------------------------------------------------------------------
 
-def rows_of(slot):
-    """The rows that belong to a slot."""
-    return range(SLOT_ROWS * slot, SLOT_ROWS * (slot + 1))
+def rows_of(addresses, slot):
+    """The rows that belong to a slot: the list's first half or its second."""
+    half = len(addresses) // SLOTS
+    return range(half * slot, half * (slot + 1))
 
 
 def install(board, addresses, floors, slot, number, key):
@@ -85,7 +87,7 @@ def install(board, addresses, floors, slot, number, key):
     if board.slots[slot] == wanted:
         return
     board.slots[slot] = wanted
-    for row in rows_of(slot):
+    for row in rows_of(addresses, slot):
         addresses[row] = floors[row] = 0
 
 
@@ -106,7 +108,7 @@ def switch(board, number):
 
 def row_of(addresses, slot, sender):
     """The lowest row of the slot that has the sender's address, or None; 0 finds a free row."""
-    return lowest(rows_of(slot), lambda row: addresses[row] == sender)
+    return lowest(rows_of(addresses, slot), lambda row: addresses[row] == sender)
 
 
 def forget(addresses, floors, slot, sender):

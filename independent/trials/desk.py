@@ -3,7 +3,8 @@
 from .. import lines
 from ..model import headers, tables
 
-STORED_ROWS = 128
+STORED_ROWS = 1026  # two more than a list may have
+LENT_ROWS = (64, 64)  # at first: addresses, floors
 EE = b"\xee" * 32  # an output before anything is laid into it
 
 FRAME = lines.hex_field(0, 256)
@@ -24,7 +25,7 @@ class Desk:
         self.board = None
         self.addresses = [0] * STORED_ROWS
         self.floors = [0] * STORED_ROWS
-        self.lent = (tables.ROWS, tables.ROWS)
+        self.lent = LENT_ROWS
         self.words = {
             b"board": ((ADDRESS,), self.make),
             b"lend": ((LENT, LENT), self.lend),

@@ -278,7 +278,8 @@ def add_nonces(script):
                    expect=ok("0807060504030201" + "44332211" + last))
     script.add("nonce", ONES, 4294967295, 255, expect=ok("ff" * 12 + "fd"))
     script.add("nonce", ZERO, 0, 7, expect=ok("00" * 12 + "05"))
-    script.group("aux: level 0 and extended nonce; an identifier has two bits, and 1 sends the number")
+    script.group("aux: level 0 and extended nonce; an identifier has two bits, and 1 sends the "
+                 "number")
     for identifier, first in ((0, "20"), (1, "28"), (2, "30"), (3, "38"), (4, "20"), (5, "28"),
                               (254, "30"), (255, "38")):
         script.add("aux", identifier, 287454020, "0102030405060708", 153,

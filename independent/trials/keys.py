@@ -11,7 +11,7 @@ FIRST = b"\x90" + K[1:]       # K but for its first octet
 OTHER = bytes(range(0xF0, 0x100))
 NO_SLOT = (0, 0, bytes(16))
 NO_LINK = (0, ZERO, bytes(16), 0)
-SEED, STEPS = 1001, 60
+SEED, STEPS = 1001, 240
 
 
 # ---- answers as they are expected ----------------------------------------------------------------
@@ -86,7 +86,7 @@ def add_boards(script):
     show(script, counters=ok(OWN, 0, 0), slots=slots(NO_SLOT, NO_SLOT, "-"), links=links({}),
          rows="ok")
     script.group("a refused or a bad board leaves the old one and its lists")
-    set_rows(script, (0, P1, 1), (63, P2, 4294967295), (64, ONES, 2), (127, ZERO, 3))
+    set_rows(script, (0, P1, 1), (63, P2, 4294967295), (64, ONES, 2), (1025, ZERO, 3))
     script.add("setslot", 1, 1, 255, K, expect="ok")
     script.add("setlink", 7, 1, ONES, OTHER, 4294967295, expect="ok")
     script.add("setactive", 1, expect="ok")
@@ -94,8 +94,8 @@ def add_boards(script):
         script.add("board", own, expect=expect)
         show(script, counters=ok(OWN, 0, 0), slots=slots(NO_SLOT, (1, 255, K), 1),
              links=links({7: (1, ONES, OTHER, 4294967295)}),
-             rows=rows((0, P1, 1), (63, P2, 4294967295), (64, ONES, 2), (127, ZERO, 3)))
-    script.group("a new board is fresh in all 128 rows, and the lend stays")
+             rows=rows((0, P1, 1), (63, P2, 4294967295), (64, ONES, 2), (1025, ZERO, 3)))
+    script.group("a new board is fresh in all 1026 rows, and the lend stays")
     script.add("lend", 10, 20, expect="ok")
     script.add("board", "fffffffffffffffe", expect="ok")
     show(script, counters=ok("fffffffffffffffe", 0, 0), slots=slots(NO_SLOT, NO_SLOT, "-"),
@@ -114,11 +114,11 @@ def add_boards(script):
 
 def add_install_order(script):
     """1 before 14 for the slot before 14 for the other slot's number, and the same for forget."""
-    fresh(script, "lists not of 64 rows: 1 before all else, and nothing changes")
+    fresh(script, "lists of lengths that are not allowed: 1 before all else, and nothing changes")
     script.add("setslot", 1, 1, 7, K, expect="ok")
     set_rows(script, (0, P1, 5), (32, P2, 6), (63, P3, 7), (64, P1, 8))
     held = rows((0, P1, 5), (32, P2, 6), (63, P3, 7), (64, P1, 8))
-    for lent in ((63, 64), (64, 63), (65, 64), (64, 65), (0, 0), (128, 128)):
+    for lent in ((63, 64), (64, 63), (65, 64), (64, 65), (0, 0), (1026, 1026)):
         script.add("lend", *lent, expect="ok")
         for slot, number in ((0, 9), (2, 9), (0, 7)):
             script.add("network", slot, number, K, expect=refused(1))
@@ -142,7 +142,7 @@ def add_install_order(script):
 
 
 SAMPLE = ((0, P1, 11), (5, ZERO, 9), (31, P2, 0), (32, P1, 12), (40, ZERO, 8), (63, P3, 0),
-          (64, P1, 13), (127, P2, 14))
+          (64, P1, 13), (1025, P2, 14))
 HALVES = (SAMPLE[:3], SAMPLE[3:6])
 BEYOND = SAMPLE[6:]
 
@@ -182,15 +182,24 @@ def add_install_again(script):
 
 
 def add_all_rows(script):
-    """All 128 rows, which is the longest answer; then each slot's 32 are freed and no others."""
-    fresh(script, "all 128 rows: the longest answer, then 32 freed at a time")
-    held = [(row, "f" * 15 + f"{row % 15:x}", 4294967295 - row) for row in range(128)]
+    """All 1,026 rows, which is the longest answer; then each slot's 32 are freed and no others,
+    and of the longest lists each slot's 512."""
+    fresh(script, "all 1026 rows: the longest answer, then 32 freed at a time")
+    held = [(row, "f" * 15 + f"{row % 15:x}", 4294967295 - row) for row in range(1026)]
     set_rows(script, *held)
     show(script, rows=rows(*held))
     script.add("network", 1, 6, K, expect="ok")
     show(script, rows=rows(*held[:32], *held[64:]))
     script.add("network", 0, 7, FIRST, expect="ok")
     show(script, rows=rows(*held[64:]))
+    script.group("1024 rows are lent: 512 freed at a time, and the two behind them stay")
+    script.add("lend", 1024, 1024, expect="ok")
+    script.add("network", 0, 8, FIRST, expect="ok")
+    show(script, rows=rows(*held[512:]))
+    set_rows(script, held[0], held[511])
+    script.add("network", 1, 9, K, expect="ok")
+    show(script, rows=rows(held[0], held[511], *held[1024:]))
+    script.add("lend", 64, 64, expect="ok")
 
 
 def add_install_active(script):
@@ -447,12 +456,16 @@ def add_forget_nobody(script):
 
 # ---- any order -----------------------------------------------------------------------------------
 
+LENDS = (*((64, 64),) * 3, (2, 2), (4, 4), (62, 62), (66, 66), (1022, 1022), (1024, 1024),
+         (63, 63), (64, 66), (1026, 1026))
+
+
 def some_request(chance):
     """A random request, and the tables that it may change."""
     keys, numbers = (K, LAST, OTHER), (0, 1, 2, 255)
     addresses = (ZERO, ONES, P1, P2, P3, partner(0), partner(1), partner(2), partner(3))
     pick = chance.pick
-    row = pick((0, 1, 30, 31, 32, 33, 63, 64))
+    row = pick((0, 1, 2, 3, 30, 31, 32, 33, 63, 64, 510, 511, 512, 1023, 1024, 1025))
     return pick((
         (("network", pick((0, 0, 0, 1, 1, 1, 2)), pick(numbers), pick(keys)), ("slots", "rows")),
         (("switch", pick(numbers)), ("slots",)),
@@ -465,11 +478,13 @@ def some_request(chance):
         (("setrow", row, pick(addresses), pick((0, 1, 4294967295))), ()),
         (("setrow", row, pick(addresses), pick((0, 1, 4294967295))), ()),
         (("setactive", pick((0, 1, 2, 255))), ("slots",)),
+        (("lend", *pick(LENDS)), ()),
+        (("lend", *pick(LENDS)), ()),
     ))
 
 
 def add_random_requests(script):
-    """Requests in any order, on tables that get worse and worse."""
+    """Requests in any order, on tables that get worse and worse and lists of many lengths."""
     fresh(script, f"any order, {STEPS} requests, seed {SEED}")
     chance = Chance(SEED)
     for _ in range(STEPS):
@@ -477,6 +492,7 @@ def add_random_requests(script):
         script.add(*line)
         for table in tables:
             script.add(table)
+    script.add("lend", 64, 64, expect="ok")
 
 
 def add_keys(script):

@@ -2,6 +2,7 @@
 
 from ..lines import Script, ok
 from .frames import PLAIN, add_frames
+from .halls import add_halls
 from .keys import K, LAST, OWN, P1, add_keys, links, rows, show, slots
 
 KEY = K.hex()
@@ -25,8 +26,8 @@ WRONG = {
     "C": ("4294967296", "00", "", "4294967295 ", "042949672", "-1", "18446744073709551617",
           "99999999999999999999999999"),
     "P": ("2", "01", "", "10", "true", "255"),
-    "S": ("129", "064", "", "-64", "256", "65536"),
-    "R": ("128", "00", "", "255", "256", "-0"),
+    "S": ("1027", "064", "", "-64", "2048", "65536"),
+    "R": ("1026", "00", "", "1027", "65536", "-0"),
     "E": ("8", "07", "", "255", "-1", "256"),
 }
 
@@ -71,14 +72,14 @@ def add_bad(script):
     """Lines that are not the language's, on a board that none of them changes."""
     script.group("a board that bad lines leave as it is")
     script.add("board", OWN, expect="ok")
-    for line in (("network", 1, 9, K), ("switch", 9), ("link", P1, LAST), ("setrow", 127, P1, 5)):
+    for line in (("network", 1, 9, K), ("switch", 9), ("link", P1, LAST), ("setrow", 1025, P1, 5)):
         script.add(*line, expect="ok")
     add_bad_fields(script)
     add_bad_counts(script)
     add_bad_words(script)
     script.group("nothing changed")
     show(script, counters=ok(OWN, 0, 0), slots=slots((0, 0, bytes(16)), (1, 9, K), 1),
-         links=links({0: (1, P1, LAST, 0)}), rows=rows((127, P1, 5)))
+         links=links({0: (1, P1, LAST, 0)}), rows=rows((1025, P1, 5)))
     script.add("network", 1, 9, K, expect="ok")
 
 
@@ -95,11 +96,11 @@ def add_fine(script):
     script.raw("auth\t0\t2\tFDFE", ok("fdfe" + "ee" * 30))
     script.raw("frame\t", "refused\t3\tshort")
     script.raw("apsframe\t" + P1 + "\t", "refused\t3\tshort")
-    for lent in ((0, 128), (128, 0), (64, 64)):
+    for lent in ((0, 1026), (1026, 0), (64, 64)):
         script.add("lend", *lent, expect="ok")
-    script.add("setrow", 127, "f" * 16, 4294967295, expect="ok")
+    script.add("setrow", 1025, "f" * 16, 4294967295, expect="ok")
     script.add("setlink", 7, 1, "f" * 16, b"\xff" * 16, 4294967295, expect="ok")
-    script.add("rows", expect=rows((127, "f" * 16, 4294967295)))
+    script.add("rows", expect=rows((1025, "f" * 16, 4294967295)))
     script.group("the last line has no line feed")
     script.add("counters", expect=ok("abcdef0123456789", 0, 0))
 
@@ -108,6 +109,7 @@ def make_script():
     """The whole script."""
     script = Script()
     add_keys(script)
+    add_halls(script)
     add_frames(script)
     add_bad(script)
     add_fine(script)

@@ -1,7 +1,6 @@
 // APS commands, read and written.
 use crate::answer::done;
 use crate::desk::Moved;
-use crate::desk::room_of;
 use crate::forms::COMMANDS;
 use crate::frame::Frame;
 use answers::Guard;
@@ -93,7 +92,7 @@ pub(crate) fn write(
     let k = key.octets;
     let r = rest.octets;
     let mut out = [0u8; 256];
-    let room = room_of(lent, &out);
+    let room = lines::room_of(lent, &out);
     let wrote = commands::write_command(
         b,
         ack,

@@ -1,7 +1,4 @@
 // What stays from line to line.
-ghost use mathlib.Core.Path.{_≡_};
-ghost use Prim.Native.Nat.{_≤_};
-ghost use lib.ListN.{length, take};
 use crate::answer::told;
 use board::After;
 use board::Board;
@@ -125,33 +122,5 @@ pub(crate) fn shown(answer: Answer, b: Board, lists: Lists) -> Held {
         answer,
         board: b,
         lists,
-    }
-}
-
-// As many octets of out as are lent. The two facts are what a part of out asks for; so they are
-// below, of the lists.
-pub(crate) fn room_of(lent: usize, out: &[u8]) -> usize
-    ensures { λ r. ⌜ (r ≤ length (now (out .entry))) × (r ≡ length (take r (now (out .entry)))) ⌝ }
-{
-    if out.len() < lent { out.len() } else { lent }
-}
-
-pub(crate) fn addresses_of(lent: usize, addrs: &[u64]) -> usize
-    ensures { λ r. ⌜ (r ≤ length (now (addrs .entry))) × (r ≡ length (take r (now (addrs .entry)))) ⌝ }
-{
-    if addrs.len() < lent {
-        addrs.len()
-    } else {
-        lent
-    }
-}
-
-pub(crate) fn floors_of(lent: usize, floors: &[u32]) -> usize
-    ensures { λ r. ⌜ (r ≤ length (now (floors .entry))) × (r ≡ length (take r (now (floors .entry)))) ⌝ }
-{
-    if floors.len() < lent {
-        floors.len()
-    } else {
-        lent
     }
 }

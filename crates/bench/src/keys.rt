@@ -4,9 +4,7 @@ use crate::desk::Held;
 use crate::desk::Lent;
 use crate::desk::Lists;
 use crate::desk::Moved;
-use crate::desk::addresses_of;
 use crate::desk::after;
-use crate::desk::floors_of;
 use crate::desk::with_lists;
 use crate::frame::Frame;
 use crate::frame::sixteen;
@@ -34,8 +32,8 @@ pub(crate) fn network(
 ) -> Held {
     let mut addrs = lists.addrs;
     let mut floors = lists.floors;
-    let rows = addresses_of(lent.rows, &addrs);
-    let tops = floors_of(lent.tops, &floors);
+    let rows = lines::addresses_of(lent.rows, &addrs);
+    let tops = lines::floors_of(lent.tops, &floors);
     let done = board::install(
         b,
         &mut addrs[..rows],
@@ -50,8 +48,8 @@ pub(crate) fn network(
 pub(crate) fn forget(slot: usize, sender: u64, b: Board, lists: Lists, lent: Lent) -> Held {
     let mut addrs = lists.addrs;
     let mut floors = lists.floors;
-    let rows = addresses_of(lent.rows, &addrs);
-    let tops = floors_of(lent.tops, &floors);
+    let rows = lines::addresses_of(lent.rows, &addrs);
+    let tops = lines::floors_of(lent.tops, &floors);
     let outcome = board::forget(&mut addrs[..rows], &mut floors[..tops], slot, sender);
     Held {
         answer: told(outcome),

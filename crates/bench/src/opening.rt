@@ -4,9 +4,6 @@ use crate::desk::Held;
 use crate::desk::Lent;
 use crate::desk::Lists;
 use crate::desk::Moved;
-use crate::desk::addresses_of;
-use crate::desk::floors_of;
-use crate::desk::room_of;
 use crate::frame::Frame;
 use answers::Guard;
 use answers::Opened;
@@ -24,9 +21,9 @@ pub(crate) fn open(f: Frame, b: Board, lists: Lists, lent: Lent) -> Held {
     let mut addrs = lists.addrs;
     let mut floors = lists.floors;
     let mut out = [0u8; 256];
-    let rows = addresses_of(lent.rows, &addrs);
-    let tops = floors_of(lent.tops, &floors);
-    let room = room_of(lent.room, &out);
+    let rows = lines::addresses_of(lent.rows, &addrs);
+    let tops = lines::floors_of(lent.tops, &floors);
+    let room = lines::room_of(lent.room, &out);
     let o = f.octets;
     let found = network::open_frame(
         b,
@@ -62,7 +59,7 @@ fn looked_network(why: Refusal, b: Board, f: Frame) -> Answer {
 pub(crate) fn open_aps(given: u64, f: Frame, b: Board, lent: usize) -> Moved {
     let o = f.octets;
     let mut out = [0u8; 256];
-    let room = room_of(lent, &out);
+    let room = lines::room_of(lent, &out);
     let received = aps::open_frame(b, text::front(&o, f.n), given, &mut out[..room]);
     after_aps(received, out, f, given)
 }

@@ -63,7 +63,7 @@ fn on_board(r: OnBoard, key: Frame, f: Frame, b: Board, lists: Lists, lent: Lent
         OnBoard::Seal => with_lists(sealing::seal(f, b, room), lists),
         OnBoard::SealAps(a, id) => with_lists(sealing::seal_aps(a, id, f, b, room), lists),
         OnBoard::State => shown(show::state(b), b, lists),
-        OnBoard::Heard(slot) => shown(show::heard(slot, lists), b, lists),
+        OnBoard::Heard(slot) => shown(show::heard(slot, lists, lent), b, lists),
         OnBoard::Links => shown(show::links(b), b, lists),
         OnBoard::Write(ack, c) => with_lists(command_lines::write(ack, c, key, f, b, room), lists),
     }

@@ -1,7 +1,6 @@
 // Frames sealed, at both layers.
 use crate::answer::done;
 use crate::desk::Moved;
-use crate::desk::room_of;
 use crate::frame::Frame;
 use answers::Sealed;
 use board::Board;
@@ -13,7 +12,7 @@ use lines::refused;
 pub(crate) fn seal(f: Frame, b: Board, lent: usize) -> Moved {
     let o = f.octets;
     let mut out = [0u8; 256];
-    let room = room_of(lent, &out);
+    let room = lines::room_of(lent, &out);
     let sent = network::seal_frame(b, text::front(&o, f.n), &mut out[..room]);
     sealed(sent, out)
 }
@@ -21,7 +20,7 @@ pub(crate) fn seal(f: Frame, b: Board, lent: usize) -> Moved {
 pub(crate) fn seal_aps(partner: u64, identifier: u8, f: Frame, b: Board, lent: usize) -> Moved {
     let o = f.octets;
     let mut out = [0u8; 256];
-    let room = room_of(lent, &out);
+    let room = lines::room_of(lent, &out);
     let sent = aps::seal_frame(
         b,
         text::front(&o, f.n),

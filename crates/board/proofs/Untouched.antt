@@ -5,7 +5,6 @@ use mathlib.Core.Path.{_≡_, refl}
 use mathlib.Core.Bool.{not}
 use Prim.Native.Nat.{ℕ, _-_}
 use lib.Dec.{eqb, ltb}
-use Rattle.settings.specs.Settings.{Settings}
 use Rattle.octets.proofs.Choices.{choose}
 use Rattle.octets.specs.Addresses.{noAddress}
 use Rattle.octets.specs.Lists.{eqList}
@@ -46,10 +45,10 @@ same-links b = record { own = refl; outgoing = refl; aps = refl; slots = refl; a
 link-kept : (b : Board) (i : ℕ) (l : _) → KeptByLinks b (withLink b i l)
 link-kept b i l = record { own = refl; outgoing = refl; aps = refl; slots = refl; active = refl }
 
-pub install-keeps : (z : Settings) (b : Board) (w : Lists) (i n : ℕ) (k : Key) → KeptByNetwork b (install z b w i n k .board)
+pub install-keeps : (b : Board) (w : Lists) (i n : ℕ) (k : Key) → KeptByNetwork b (install b w i n k .board)
 unfolding install
-install-keeps z b w i n k =
-    choose K (not (listsFit z w)) _ _ (λ _. same-network b) λ _.
+install-keeps b w i n k =
+    choose K (not (listsFit w)) _ _ (λ _. same-network b) λ _.
     choose K (ltb 1 i) _ _ (λ _. same-network b) λ _.
     choose K (carries (slotAt (b .slots) (1 - i)) n) _ _ (λ _. same-network b) λ _.
     choose K (holds (slotAt (b .slots) i) n k) _ _ (λ _. same-network b) λ _.

@@ -5,7 +5,6 @@ use mathlib.Core.List.{List}
 use Prim.Native.Nat.{ℕ, _-_, _*_}
 use lib.Dec.{eqb, ltb}
 use lib.ListN.{set}
-use Rattle.settings.specs.Settings.{Settings}
 use Rattle.octets.specs.Addresses.{noAddress}
 use Rattle.octets.specs.Choice.{if_then_else_, both}
 use Rattle.octets.specs.Lists.{eqList}
@@ -16,7 +15,7 @@ use Rattle.board.specs.declared.Board.{Board}
 use Rattle.board.specs.declared.Place.{Place}
 use Rattle.board.specs.declared.Place.the-variants.{At, Absent}
 use Rattle.board.specs.Places.{firstAt}
-use Rattle.board.specs.Rows.{Lists, lists, listsFit, findRow, freed}
+use Rattle.board.specs.Rows.{Lists, lists, listsFit, half, findRow, freed}
 use Rattle.board.specs.State.{slotAt, linkAt, carries, pairs, noLink, fresh, withSlot, withActive, withLink}
 use Rattle.answers.specs.Numbers.{Told, done, refused}
 
@@ -58,19 +57,19 @@ holds s n k = both (carries s n) (eqList (s .key) (k .octets))
 abbrev pub installed : ℕ → Key → Slot
 installed n k = record { present = true; seq = n; key = k .octets }
 
--- "its 32 rows are freed"
-abbrev pub rowsFreed : Settings → Lists → ℕ → Lists
-rowsFreed z w i = lists (freed (w .addrs) (i * z .rows) (z .rows)) (freed (w .floors) (i * z .rows) (z .rows))
+-- "its 32 rows are freed": the m rows of slot i
+abbrev pub rowsFreed : ℕ → Lists → ℕ → Lists
+rowsFreed m w i = lists (freed (w .addrs) (i * m) m) (freed (w .floors) (i * m) m)
 
 -- "14 if the slot is above 1 or the other present slot has that sequence number. The octets and number that the slot,
 -- present, already has: nothing changes. Otherwise the slot is replaced, its 32 rows are freed, and the active mark stays."
-unfoldable pub install : Settings → Board → Lists → ℕ → ℕ → Key → Left
-install z b w i n k =
-    if not (listsFit z w) then left (refused 1) b w
+unfoldable pub install : Board → Lists → ℕ → ℕ → Key → Left
+install b w i n k =
+    if not (listsFit w) then left (refused 1) b w
     else (if ltb 1 i then left (refused 14) b w
     else (if carries (slotAt (b .slots) (1 - i)) n then left (refused 14) b w
     else (if holds (slotAt (b .slots) i) n k then left done b w
-    else left done (withSlot b i (installed n k)) (rowsFreed z w i))))
+    else left done (withSlot b i (installed n k)) (rowsFreed (half w) w i))))
 
 -- the lowest present slot with that sequence number
 unfoldable pub slotOf : List Slot → ℕ → Place
@@ -127,9 +126,9 @@ abbrev pub forgetAt : Lists → Place → Freed
 forgetAt w (At r) = freeing done (lists (set (w .addrs) r 0) (set (w .floors) r 0))
 forgetAt w Absent = freeing (refused 13) w
 
-unfoldable pub forget : Settings → Lists → ℕ → ℕ → Freed
-forget z w i a =
-    if not (listsFit z w) then freeing (refused 1) w
+unfoldable pub forget : Lists → ℕ → ℕ → Freed
+forget w i a =
+    if not (listsFit w) then freeing (refused 1) w
     else (if ltb 1 i then freeing (refused 14) w
     else (if eqb a 0 then freeing (refused 13) w
-    else forgetAt w (findRow (w .addrs) (i * z .rows) (z .rows) a)))
+    else forgetAt w (findRow (w .addrs) (i * half w) (half w) a)))

@@ -10,11 +10,9 @@ use crate::rows::lists_fit;
 use crate::state::with_active;
 use crate::state::with_slot;
 use answers::Refusal;
-use settings::ROWS;
 ghost use mathlib.Core.Path.{_≡_};
 ghost use Prim.Native.Nat.{_-_, _<_};
 ghost use Rattle.answers.specs.Numbers.{told};
-ghost use Rattle.settings.specs.Settings.{ours};
 ghost use Rattle.octets.specs.Keys.{theKey};
 ghost use Rattle.board.specs.Rows.{lists};
 ghost use Rattle.board.specs.State.{slotAt, carries};
@@ -48,11 +46,12 @@ pub fn install(
     sequence: u8,
     key: [u8; 16],
 ) -> After
-    ensures { λ r. ⌜ left (told (r .answer)) (r .board) (lists (now (addrs .exit)) (now (floors .exit))) ≡ Requests·install ours board (lists (now (addrs .entry)) (now (floors .entry))) slot sequence (theKey key) ⌝ }
+    ensures { λ r. ⌜ left (told (r .answer)) (r .board) (lists (now (addrs .exit)) (now (floors .exit))) ≡ Requests·install board (lists (now (addrs .entry)) (now (floors .entry))) slot sequence (theKey key) ⌝ }
 {
     if !lists_fit(addrs, floors) {
         return refuse(Refusal::Room, board);
     }
+    let rows = addrs.len() / 2;
     if 1 < slot {
         return refuse(Refusal::Argument, board);
     }
@@ -64,7 +63,7 @@ pub fn install(
     if holds_key(now, sequence, key) {
         return did(board);
     }
-    free_rows(addrs, floors, slot * ROWS, ROWS);
+    free_rows(addrs, floors, slot * rows, rows);
     let s = Slot {
         present: true,
         seq: sequence,

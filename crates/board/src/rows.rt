@@ -2,25 +2,31 @@
 use crate::Place;
 use answers::Outcome;
 use answers::Refusal;
-use settings::LIST;
-use settings::ROWS;
+use settings::LONGEST_LIST;
+use settings::SHORTEST_LIST;
 ghost use mathlib.Core.Path.{_≡_};
 ghost use Prim.Native.Nat.{_+_, _-_, _≤_, min};
 ghost use lib.ListN.{length, set};
 ghost use Rattle.answers.specs.Numbers.{told};
-ghost use Rattle.settings.specs.Settings.{ours};
 ghost use Rattle.board.specs.Rows.{lists, listsFit, findRow, freed};
 ghost use Rattle.board.specs.Requests.{freeing};
 ghost use Rattle.board.specs.Requests.{forget as Requests·forget};
 
-// Whether both lists have the rows of two slots.
+// Whether both lists have one length, and that is even and from 2 to 1,024.
 pub fn lists_fit(addrs: &[u64], floors: &[u32]) -> bool
-    ensures { λ r. ⌜ r ≡ listsFit ours (lists (now (addrs .entry)) (now (floors .entry))) ⌝ }
+    ensures { λ r. ⌜ r ≡ listsFit (lists (now (addrs .entry)) (now (floors .entry))) ⌝ }
 {
-    if addrs.len() != LIST {
+    let n = addrs.len();
+    if n < SHORTEST_LIST {
         return false;
     }
-    floors.len() == LIST
+    if LONGEST_LIST < n {
+        return false;
+    }
+    if n % 2 != 0 {
+        return false;
+    }
+    floors.len() == n
 }
 
 // The lowest of the n rows from place from on, so far as the list has them, with that address.
@@ -103,19 +109,20 @@ pub(crate) fn free_rows(addrs: &mut [u64], floors: &mut [u32], from: usize, n: u
 // Forgets a sender of a slot: its row is freed. 1 where the lists don't fit, 14 for a slot above 1,
 // 13 where the sender is not there.
 pub fn forget(addrs: &mut [u64], floors: &mut [u32], slot: usize, sender: u64) -> Outcome
-    ensures { λ r. ⌜ freeing (told r) (lists (now (addrs .exit)) (now (floors .exit))) ≡ Requests·forget ours (lists (now (addrs .entry)) (now (floors .entry))) slot sender ⌝ }
+    ensures { λ r. ⌜ freeing (told r) (lists (now (addrs .exit)) (now (floors .exit))) ≡ Requests·forget (lists (now (addrs .entry)) (now (floors .entry))) slot sender ⌝ }
 {
     let fit = lists_fit(addrs, floors);
     if !fit {
         return Outcome::Refused(Refusal::Room);
     }
+    let rows = addrs.len() / 2;
     if 1 < slot {
         return Outcome::Refused(Refusal::Argument);
     }
     if sender == 0 {
         return Outcome::Refused(Refusal::Absent);
     }
-    match find_row(addrs, slot * ROWS, ROWS, sender) {
+    match find_row(addrs, slot * rows, rows, sender) {
         Place::At(r) => {
             put_row(addrs, floors, r, 0, 0);
             Outcome::Done

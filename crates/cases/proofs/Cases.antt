@@ -4,7 +4,7 @@ use mathlib.Core.Path.{_≡_, refl, sym, ap, _∙_}
 use mathlib.Core.Logic.{⊎-elim}
 use mathlib.Core.Bool.{Bool, true, false}
 use mathlib.Core.List.{List, [], _∷_}
-use Prim.Native.Nat.{ℕ, zero, suc, _+_, _-_, _*_, _<_, _≤_, min}
+use Prim.Native.Nat.{ℕ, zero, suc, _+_, _-_, _*_, _/_, _<_, _≤_, min}
 use native.Mathlib.Nat.{eq-or-lt-of-le}
 use native.Mathlib.Omega.{arith}
 use lib.Dec.{eqb, ltb}
@@ -30,7 +30,7 @@ use Rattle.board.specs.declared.Link.{Link}
 use Rattle.board.specs.declared.Place.{Place}
 use Rattle.board.specs.declared.Place.the-variants.{At, Absent}
 use Rattle.board.specs.Places.{firstAt}
-use Rattle.board.specs.Rows.{Lists, lists, listsFit, findRow}
+use Rattle.board.specs.Rows.{Lists, lists, listsFit, half, findRow}
 use Rattle.board.specs.State.{linkAt, pairs}
 use Rattle.board.specs.Requests.{linkOf}
 use Rattle.board.proofs.Found.{FoundAt, first-found, first-none, row-place, lists-long}
@@ -38,7 +38,7 @@ use Rattle.seals.proofs.Opened.{message-length, sound-tells}
 use Rattle.seals.proofs.Fairly.{ours-fair}
 use Rattle.network.specs.Opening.{Lent, floorAt, floorOf, orFree, rowFor, admitted, openedUnder}
 use Rattle.network.proofs.Admission.{read-sound, row-there}
-use Rattle.cases.specs.Cases.{M1, Trial, PassesRow, atRow, PassesEntry, atEntry, AtBoth, Seven, M9, Last, M10, Top, M11}
+use Rattle.cases.specs.Cases.{M1, Trial, PassesRow, floorIn, underKey, atRow, PassesEntry, atEntry, AtBoth, Seven, M9, Last, M10, Top, M11}
 use Rattle.cases.specs.Cases.{Eight, Empty, M12, Cases}
 use Rattle.aps.specs.Opening as aps
 
@@ -71,23 +71,23 @@ first-is p n i r low high t before = go (firstAt p i n) refl
     go Absent e = clash r t (first-none p n i e r low high)
 
 -- row r is the one that sender a has in slot i, or gets there
-module _ (z : Settings) (w : Lists) (i a r : ℕ) (e : rowFor z w i a ≡ At r) where
+module _ (m : ℕ) (w : Lists) (i a r : ℕ) (e : rowFor m w i a ≡ At r) where
   abbrev addrs : List ℕ
   addrs = w .addrs
 
   -- the slot's first row, and how many of its rows the list has
   abbrev first : ℕ
-  first = i * z .rows
+  first = i * m
 
   abbrev rows : ℕ
-  rows = min (z .rows) (length addrs - first)
+  rows = min m (length addrs - first)
 
   abbrev has : List ℕ → ℕ → ℕ → Bool
   has l x k = eqb (getD l k 0) x
 
   -- where address x is first found among the slot's rows of l
   abbrev rowIn : List ℕ → ℕ → Place
-  rowIn l x = findRow l first (z .rows) x
+  rowIn l x = findRow l first m x
 
   -- the addresses once the row has the sender's
   abbrev left : List ℕ
@@ -98,37 +98,38 @@ module _ (z : Settings) (w : Lists) (i a r : ℕ) (e : rowFor z w i a ≡ At r) 
   unfolding findRow
   lowest x d none =
       let f = first-found (has addrs x) rows first r d in
-      ap (λ (n : ℕ). firstAt (has left a) first (min (z .rows) (n - first))) (length-set addrs r a)
+      ap (λ (n : ℕ). firstAt (has left a) first (min m (n - first))) (length-set addrs r a)
       ∙ first-is (has left a) rows first r (f .low) (f .high)
-      (eq-eqb _ _ (getD-set-same addrs r a 0 (row-place addrs first (z .rows) x r d)))
+      (eq-eqb _ _ (getD-set-same addrs r a 0 (row-place addrs first m x r d)))
       (λ k b c. ap (λ (y : ℕ). eqb y a) (getD-set-other addrs r k a 0 (λ q. omega arith)) ∙ none k b c)
 
   heard : rowIn left a ≡ At r
   unfolding rowFor findRow
   heard = go (rowIn addrs a) refl e
     where
-      go : (x : Place) → rowIn addrs a ≡ x → orFree z w i x ≡ At r → rowIn left a ≡ At r
+      go : (x : Place) → rowIn addrs a ≡ x → orFree m w i x ≡ At r → rowIn left a ≡ At r
       go (At q) d u = lowest a (d ∙ u) (first-found (has addrs a) rows first r (d ∙ u) .before)
       go Absent d u =
           let high = first-found (has addrs 0) rows first r u .high in
           lowest 0 u (λ k b c. first-none (has addrs a) rows first d k b (omega arith))
 
 -- the floor that a sender finds behind its row's change
-left-floor : (z : Settings) (w : Lists) (i a r v : ℕ) → rowFor z w i a ≡ At r → listsFit z w ≡ true
-    → floorOf z (lists (set (w .addrs) r a) (set (w .floors) r v)) i a ≡ v
+left-floor : (w : Lists) (i a r v : ℕ) → rowFor (half w) w i a ≡ At r → listsFit w ≡ true
+    → floorIn (lists (set (w .addrs) r a) (set (w .floors) r v)) i a ≡ v
 unfolding floorOf
-left-floor z w i a r v e f =
-    let t = lists-long z w f in
-    let there : r < length (w .floors) = omega (arith, t .0, t .1, row-there z w i a r e) in
-    ap (floorAt (set (w .floors) r v)) (heard z w i a r e) ∙ getD-set-same (w .floors) r v 0 there
+left-floor w i a r v e f =
+    let t = lists-long w f in
+    let there : r < length (w .floors) = omega (arith, t .0, t .1, row-there (half w) w i a r e) in
+    ap (λ (n : ℕ). floorOf (n / 2) (lists (set (w .addrs) r a) (set (w .floors) r v)) i a) (length-set (w .addrs) r a)
+    ∙ ap (floorAt (set (w .floors) r v)) (heard (half w) w i a r e) ∙ getD-set-same (w .floors) r v 0 there
 
 row-raises : (k : Key) (f : List ℕ) (s : Secured) (w : Lent) (i : ℕ) → (s .counter ≡ top → ⊥)
-    → floorOf ours (w .lists) i (s .sender) ≤ s .counter → PassesRow k f s (w .lists) i
-    → floorOf ours (openedUnder ours k i f s w .leaves .lists) i (s .sender) ≡ s .counter + 1
+    → floorIn (w .lists) i (s .sender) ≤ s .counter → PassesRow k f s (w .lists) i
+    → floorIn (underKey k f s w i .leaves .lists) i (s .sender) ≡ s .counter + 1
 unfolding openedUnder admitted
 row-raises k f s w i n l p =
     simp (ne-eqb _ _ n, le-ltb _ _ l, p .tag, p .found)
-    (left-floor ours (w .lists) i (s .sender) (p .row) (s .counter + 1) (p .found) (p .lists))
+    (left-floor (w .lists) i (s .sender) (p .row) (s .counter + 1) (p .found) (p .lists))
 
 judged-row : (k : Key) (f : List ℕ) (s : Secured) (w : Lent) (i : ℕ) → Judged (atRow k f s w i)
 unfolding openedUnder

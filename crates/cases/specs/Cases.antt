@@ -21,12 +21,12 @@ use Rattle.frames.specs.Network.{networkControl, networkForm, networkSecured, n
 use Rattle.frames.specs.Reading.{refused, secured, announced, reading}
 use Rattle.board.specs.declared.Board.{Board}
 use Rattle.board.specs.declared.Place.the-variants.{At}
-use Rattle.board.specs.Rows.{Lists, listsFit}
+use Rattle.board.specs.Rows.{Lists, listsFit, half}
 use Rattle.board.specs.State.{linkAt}
 use Rattle.board.specs.Requests.{linkOf}
 use Rattle.seals.specs.Sealing.{messageOf}
 use Rattle.network.specs.Sealing.{identifier}
-use Rattle.network.specs.Opening.{Lent, floorOf, rowFor, openedUnder}
+use Rattle.network.specs.Opening.{Lent, Opening, floorOf, rowFor, openedUnder}
 use Rattle.aps.specs.Opening as aps
 
 -- "M1 sender 0x0000000100000000, counter 5, network: nonce 00 00 00 00 01 00 00 00 05 00 00 00 2D."
@@ -47,20 +47,28 @@ pub record Trial : Type 1 where
 
 -- every other check, at the network layer: the lists (1), the tag (9), and a row (10)
 pub record PassesRow (k : Key) (f : List ℕ) (s : Secured) (w : Lists) (i : ℕ) : Type 0 where
-  pub lists : listsFit ours w ≡ true
+  pub lists : listsFit w ≡ true
   pub message : List ℕ
   pub tag : messageOf ours k f s ≡ valid message
   pub row : ℕ
-  pub found : rowFor ours w i (s .sender) ≡ At row
+  pub found : rowFor (half w) w i (s .sender) ≡ At row
+
+-- the floor that sender a finds in slot i
+abbrev pub floorIn : Lists → ℕ → ℕ → ℕ
+floorIn w i a = floorOf (half w) w i a
+
+-- opening under the key k of slot i
+abbrev pub underKey : Key → List ℕ → Secured → Lent → ℕ → Opening
+underKey k f s w i = openedUnder ours (half (w .lists)) k i f s w
 
 abbrev pub atRow : Key → List ℕ → Secured → Lent → ℕ → Trial
 atRow k f s w i =
     record {
       counter = s .counter;
-      floor = floorOf ours (w .lists) i (s .sender);
-      answer = openedUnder ours k i f s w .answer;
+      floor = floorIn (w .lists) i (s .sender);
+      answer = underKey k f s w i .answer;
       Passes = PassesRow k f s (w .lists) i;
-      leaves = floorOf ours (openedUnder ours k i f s w .leaves .lists) i (s .sender);
+      leaves = floorIn (underKey k f s w i .leaves .lists) i (s .sender);
     }
 
 -- every other check, at the APS layer: the sender's entry (6), and the tag (9)

@@ -135,7 +135,7 @@ module _ (z : Settings) (own : ℕ) (wide : own < 2 ^ 64) (someone : noAddress o
 
   sends-step : (c : Call) → Octets (toSeal c) → After c
   sends-step (install i n k) o =
-      let t = install-keeps z b (x .lists) i n k in
+      let t = install-keeps b (x .lists) i n k in
       silent (install i n k) (kept w (t .own) (t .outgoing) refl) (quiet-installing h (slot i) (key n k))
   sends-step (switch n) o = let t = switch-keeps b n in silent (switch n) (kept w (t .own) (t .outgoing) refl) refl
   sends-step (addLink a k) o =
@@ -169,12 +169,13 @@ sends-fresh own = choose P (noAddress own) _ _ none made
     made : noAddress own ≡ false → done ≡ done → (noAddress own ≡ false) × Sends own (fresh own) []
     made t e = (t, record { owned = refl; low = omega arith; below = refl; rises = refl })
 
-sends : (z : Settings) (own : ℕ) → own < 2 ^ 64 → make own .answer ≡ done → (cs : List Call) → SealsOctets cs
-    → Sends own (run z own cs .board) (readings z (sentIn (story z (exchanges (replies z own) cs))))
-sends z own wide e [] o = sends-fresh own e .1
-sends z own wide e (c ∷ cs) o =
-    let before = sends z own wide e cs (o .1) in
-    sends-step z own wide (sends-fresh own e .0) (run z own cs) (story z (exchanges (replies z own) cs)) before c (o .0)
+sends : (z : Settings) (n own : ℕ) → own < 2 ^ 64 → make own .answer ≡ done → (cs : List Call) → SealsOctets cs
+    → Sends own (run z n own cs .board) (readings z (sentIn (story z (exchanges (replies z n own) cs))))
+sends z n own wide e [] o = sends-fresh own e .1
+sends z n own wide e (c ∷ cs) o =
+    let before = sends z n own wide e cs (o .1) in
+    sends-step z own wide (sends-fresh own e .0) (run z n own cs) (story z (exchanges (replies z n own) cs)) before c (o .0)
 
-pub first : (z : Settings) (own : ℕ) → own < 2 ^ 64 → make own .answer ≡ done → First z (replies z own)
-first z own wide e cs o = sends z own wide e cs o .rises
+-- whatever the lists' length
+pub first : (z : Settings) (n own : ℕ) → own < 2 ^ 64 → make own .answer ≡ done → First z (replies z n own)
+first z n own wide e cs o = sends z n own wide e cs o .rises

@@ -194,25 +194,25 @@ same-self h nowhere n k e = let never : none ≡ key n k = sym (key-nowhere h) �
 
 -- ---- what the checks tell
 
-module _ (z : Settings) (h : List Event) (l : Layer) (f : List ℕ) (g : ℕ) (o : List ℕ) (s : Secured)
+module _ (z : Settings) (m : ℕ) (h : List Event) (l : Layer) (f : List ℕ) (g : ℕ) (o : List ℕ) (s : Secured)
     (read : reading z l f g ≡ secured s) where
   abbrev x : Holder
   x = holderFor h l s
 
-  passes-not : passesRead z h l f (secured s) ≡ false → passes z h l f g o ≡ false
+  passes-not : passesRead z m h l f (secured s) ≡ false → passes z m h l f g o ≡ false
   unfolding passes
   passes-not q =
-      ap (λ (t : Bool). both (leb longest (length o)) (both (leb (length f) (longestAt l)) t)) (ap (passesRead z h l f) read ∙ q)
+      ap (λ (t : Bool). both (leb longest (length o)) (both (leb (length f) (longestAt l)) t)) (ap (passesRead z m h l f) read ∙ q)
       ∙ ap (both (leb longest (length o))) (both-false (leb (length f) (longestAt l))) ∙ both-false (leb longest (length o))
 
-  stale-not : aboveAll (s .sender) (s .counter) (heardIn h x) ≡ false → passes z h l f g o ≡ false
+  stale-not : aboveAll (s .sender) (s .counter) (heardIn h x) ≡ false → passes z m h l f g o ≡ false
   unfolding passesRead passesUnder
   stale-not q = passes-not (go (keyIn h x))
     where
-      go : (y : Installation) → passesUnder z h l f s x y ≡ false
+      go : (y : Installation) → passesUnder z m h l f s x y ≡ false
       go none = refl
       go (key n k) =
-          ap (λ (t : Bool). both (ltb (s .counter) top) (both t (both (genuine z (keyAt l s k) f s) (room z h x (s .sender))))) q
+          ap (λ (t : Bool). both (ltb (s .counter) top) (both t (both (genuine z (keyAt l s k) f s) (room m h x (s .sender))))) q
           ∙ both-false (ltb (s .counter) top)
 
   -- a frame that passes has its key
@@ -221,25 +221,25 @@ module _ (z : Settings) (h : List Event) (l : Layer) (f : List ℕ) (g : ℕ) (o
     pub octets : Key
     pub found : keyIn h x ≡ key number octets
 
-  has-key : passes z h l f g o ≡ true → Found
+  has-key : passes z m h l f g o ≡ true → Found
   unfolding passes passesRead passesUnder
   has-key e =
-      let t = both-parts (leb longest (length o)) (both (leb (length f) (longestAt l)) (passesRead z h l f (reading z l f g))) e .1 in
-      let u = both-parts (leb (length f) (longestAt l)) (passesRead z h l f (reading z l f g)) t .1 in
-      keyed-so (keyIn h x) refl (ap (passesRead z h l f) (sym read) ∙ u)
+      let t = both-parts (leb longest (length o)) (both (leb (length f) (longestAt l)) (passesRead z m h l f (reading z l f g))) e .1 in
+      let u = both-parts (leb (length f) (longestAt l)) (passesRead z m h l f (reading z l f g)) t .1 in
+      keyed-so (keyIn h x) refl (ap (passesRead z m h l f) (sym read) ∙ u)
     where
-      keyed-so : (y : Installation) → keyIn h x ≡ y → passesUnder z h l f s x y ≡ true → Found
+      keyed-so : (y : Installation) → keyIn h x ≡ y → passesUnder z m h l f s x y ≡ true → Found
       keyed-so none d u = clash u refl
       keyed-so (key n k) d u = record { number = n; octets = k; found = d }
 
 -- ---- of any board that meets the second statement
 
-module _ (z : Settings) (board : Replies) (meets : Second z board) where
+module _ (z : Settings) (m : ℕ) (board : Replies) (meets : Second z m board) where
   -- a secured frame
   opened-so : (cs : List Call) (l : Layer) (f : List ℕ) (g : ℕ) (o : List ℕ) (s : Secured) → Octets f → reading z l f g ≡ secured s
-      → not (refuses (board cs (opening l f g o))) ≡ passes z (story z (exchanges board cs)) l f g o
+      → not (refuses (board cs (opening l f g o))) ≡ passes z m (story z (exchanges board cs)) l f g o
   opened-so cs l f g o s octets e =
-      subst (λ (r : Reading). Rightly r (board cs (opening l f g o)) (passes z (story z (exchanges board cs)) l f g o)) e
+      subst (λ (r : Reading). Rightly r (board cs (opening l f g o)) (passes z m (story z (exchanges board cs)) l f g o)) e
       (meets cs l f g o octets)
 
   -- a frame that is not above all counters opened is refused, whatever else might be told of it: also as unsecured
@@ -248,7 +248,7 @@ module _ (z : Settings) (board : Replies) (meets : Second z board) where
       aboveAll (s .sender) (s .counter) (heardIn h (holderFor h l s)) ≡ false → refuses (board cs (opening l f g o)) ≡ true
   stale-refused cs l f g o s octets e q =
       not-back (refuses (board cs (opening l f g o))) false
-      (opened-so cs l f g o s octets e ∙ stale-not z (story z (exchanges board cs)) l f g o s e q)
+      (opened-so cs l f g o s octets e ∙ stale-not z m (story z (exchanges board cs)) l f g o s e q)
 
   module _ (cs : List Call) (l : Layer) (f : List ℕ) (g : ℕ) (o : List ℕ) (s : Secured) (octets : Octets f)
       (read : reading z l f g ≡ secured s) (open-first : refuses (board cs (opening l f g o)) ≡ false) where
@@ -258,8 +258,8 @@ module _ (z : Settings) (board : Replies) (meets : Second z board) where
     abbrev home : Holder
     home = holderFor (story z (exchanges board cs)) l s
 
-    key-there : Found z (story z (exchanges board cs)) l f g o s read
-    key-there = has-key z (story z (exchanges board cs)) l f g o s read (sym (opened-so cs l f g o s octets read) ∙ ap not open-first)
+    key-there : Found z m (story z (exchanges board cs)) l f g o s read
+    key-there = has-key z m (story z (exchanges board cs)) l f g o s read (sym (opened-so cs l f g o s octets read) ∙ ap not open-first)
 
     -- as soon as it was opened
     not-above : aboveAll (s .sender) (s .counter) (heardIn (story z (exchanges board (once ∷ cs))) home) ≡ false
@@ -289,11 +289,11 @@ module _ (z : Settings) (board : Replies) (meets : Second z board) where
 
   -- the frame is not unsecured
   opened-is : (cs : List Call) (l : Layer) (f : List ℕ) (g : ℕ) (o : List ℕ) → Octets f → ((n : ℕ) → reading z l f g ≡ plain n → ⊥)
-      → not (refuses (board cs (opening l f g o))) ≡ passes z (story z (exchanges board cs)) l f g o
+      → not (refuses (board cs (opening l f g o))) ≡ passes z m (story z (exchanges board cs)) l f g o
   opened-is cs l f g o octets ne = go (reading z l f g) refl (meets cs l f g o octets)
     where
-      go : (r : Reading) → reading z l f g ≡ r → Rightly r (board cs (opening l f g o)) (passes z (story z (exchanges board cs)) l f g o)
-          → not (refuses (board cs (opening l f g o))) ≡ passes z (story z (exchanges board cs)) l f g o
+      go : (r : Reading) → reading z l f g ≡ r → Rightly r (board cs (opening l f g o)) (passes z m (story z (exchanges board cs)) l f g o)
+          → not (refuses (board cs (opening l f g o))) ≡ passes z m (story z (exchanges board cs)) l f g o
       go (secured s) e t = t
       go (refused n) e t = t
       go (plain n) e t = absurd (ne n e)
@@ -306,7 +306,7 @@ module _ (z : Settings) (board : Replies) (meets : Second z board) where
       → refuses (board (ds ++ (opening l f g o ∷ cs)) (opening k e a p)) ≡ refuses (board (ds ++ cs) (opening k e a p))
   refused-leaves cs l f g o turned ds alike k e a p octets ne =
       not-back _ _ (opened-is (ds ++ (opening l f g o ∷ cs)) k e a p octets ne
-      ∙ ap (λ (h : List Event). passes z h k e a p) stories ∙ sym (opened-is (ds ++ cs) k e a p octets ne))
+      ∙ ap (λ (h : List Event). passes z m h k e a p) stories ∙ sym (opened-is (ds ++ cs) k e a p octets ne))
       ∙ not-twice (refuses (board (ds ++ cs) (opening k e a p)))
     where
       told-nothing : story z (exchanges board (opening l f g o ∷ cs)) ≡ story z (exchanges board cs)
@@ -344,7 +344,7 @@ module _ (z : Settings) (board : Replies) (meets : Second z board) where
       → ToSeal l f i c n a → Octets (k .octets) → q < 256 → longest ≤ length o → length f + sentOctets c + z .tag ≤ longestAt l
       → let h = story z (exchanges board cs) in
       keyIn h (holderFor h l (announcing i c n a q)) ≡ key y j → keyAt l (announcing i c n a q) j ≡ k → n < top
-      → aboveAll a n (heardIn h (holderFor h l (announcing i c n a q))) ≡ true → room z h (holderFor h l (announcing i c n a q)) a ≡ true
+      → aboveAll a n (heardIn h (holderFor h l (announcing i c n a q))) ≡ true → room m h (holderFor h l (announcing i c n a q)) a ≡ true
       → refuses (board cs (opening l (sealedFrame z k l c n a q f i) g o)) ≡ false
   unfolding passes passesRead passesUnder genuine
   sealed-opens fair cs l k q c n a f i g o j y p ok oq ro so ek sk nt ab rm =
@@ -354,7 +354,7 @@ module _ (z : Settings) (board : Replies) (meets : Second z board) where
       read : reading z l (sealedFrame z k l c n a q f i) g ≡ secured (announcing i c n a q)
       read = read-again z k q p g
 
-      pass : passes z (story z (exchanges board cs)) l (sealedFrame z k l c n a q f i) g o ≡ true
+      pass : passes z m (story z (exchanges board cs)) l (sealedFrame z k l c n a q f i) g o ≡ true
       pass =
           simp (
             le-leb longest (length o) ro,
@@ -369,14 +369,14 @@ module _ (z : Settings) (board : Replies) (meets : Second z board) where
           )
 
   -- so a board that took a network key and then refuses a first frame sealed under it does not meet the statement
-  pub installed-opens : Fair z → (k : Key) (q n a : ℕ) (f : List ℕ) (i g : ℕ) (o : List ℕ) → 0 < z .rows
+  pub installed-opens : Fair z → (k : Key) (q n a : ℕ) (f : List ℕ) (i g : ℕ) (o : List ℕ) → 0 < m
       → refuses (board [] (install 0 q k)) ≡ false → ToSeal Network f i 1 n a → Octets (k .octets) → q < 256 → longest ≤ length o
       → length f + sentOctets 1 + z .tag ≤ longest → n < top
       → refuses (board (install 0 q k ∷ []) (opening Network (sealedFrame z k Network 1 n a q f i) g o)) ≡ false
   unfolding slotFor firstAt
   installed-opens fair k q n a f i g o mp took p ok oq ro so nt =
       sealed-opens fair (install 0 q k ∷ []) Network k q 1 n a f i g o k q p ok oq ro so
-      (rw (took, eq-eqb q q refl) refl) refl nt (rw (took, eq-eqb q q refl) refl) (rw (took, eq-eqb q q refl) (lt-ltb 0 (z .rows) mp))
+      (rw (took, eq-eqb q q refl) refl) refl nt (rw (took, eq-eqb q q refl) refl) (rw (took, eq-eqb q q refl) (lt-ltb 0 m mp))
 
 -- ---- of ours: a refused frame might as well not have come
 
@@ -390,12 +390,12 @@ module _ (z : Settings) (x : Held) (f : List ℕ) (g : ℕ) (o : List ℕ) where
       apsWays.open-ways z (x .board) f g o (λ (r : Framed). refuses (byFrame x r .reply) ≡ true → byFrame x r .after ≡ x) (λ k e. refl)
       (λ k q e. refl) (λ s i t e. clash e refl)
 
-module _ (z : Settings) (own : ℕ) (cs : List Call) (l : Layer) (f : List ℕ) (g : ℕ) (o : List ℕ)
-    (turned : refuses (replies z own cs (opening l f g o)) ≡ true) where
-  leaves-all : (ds : List Call) → run z own (ds ++ (opening l f g o ∷ cs)) ≡ run z own (ds ++ cs)
-  leaves-all [] = refused-stays z (run z own cs) f g o l turned
+module _ (z : Settings) (n own : ℕ) (cs : List Call) (l : Layer) (f : List ℕ) (g : ℕ) (o : List ℕ)
+    (turned : refuses (replies z n own cs (opening l f g o)) ≡ true) where
+  leaves-all : (ds : List Call) → run z n own (ds ++ (opening l f g o ∷ cs)) ≡ run z n own (ds ++ cs)
+  leaves-all [] = refused-stays z (run z n own cs) f g o l turned
   leaves-all (d ∷ ds) = ap (λ (x : Held). step z d x .after) (leaves-all ds)
 
   -- forged (9), or refused for any other cause
-  pub forged-changes-nothing : (ds : List Call) (d : Call) → replies z own (ds ++ (opening l f g o ∷ cs)) d ≡ replies z own (ds ++ cs) d
+  pub forged-changes-nothing : (ds : List Call) (d : Call) → replies z n own (ds ++ (opening l f g o ∷ cs)) d ≡ replies z n own (ds ++ cs) d
   forged-changes-nothing ds d = ap (λ (x : Held). step z d x .reply) (leaves-all ds)

@@ -16,7 +16,7 @@ use Rattle.history.proofs.Counters.{bound, member, Distinct, no-one}
 use Rattle.board.specs.declared.Place.{Place}
 use Rattle.board.specs.declared.Place.the-variants.{At, Absent}
 use Rattle.board.specs.Places.{firstAt}
-use Rattle.board.proofs.Found.{first-found}
+use Rattle.board.proofs.Found.{first-found, slot-within}
 use Rattle.network.specs.Opening.{floorAt}
 
 -- ---- the rows of a slot
@@ -32,11 +32,6 @@ slot-apart m (suc zero) (suc zero) r a b c d = refl
 slot-apart m zero (suc (suc j)) r a b c d = absurd (omega arith)
 slot-apart m (suc zero) (suc (suc j)) r a b c d = absurd (omega arith)
 slot-apart m (suc (suc i)) j r a b c d = absurd (omega arith)
-
-pub slot-within : (m i : ℕ) → i < 2 → i * m + m ≤ 2 * m
-slot-within m zero a = omega arith
-slot-within m (suc zero) a = omega arith
-slot-within m (suc (suc i)) a = absurd (omega arith)
 
 abbrev pub rowIs : List ℕ → ℕ → ℕ → Bool
 rowIs al a k = eqb (getD al k 0) a

@@ -3,7 +3,7 @@
 use mathlib.Core.Path.{_≡_, refl, sym, ap, ap₂, _∙_}
 use mathlib.Core.Bool.{Bool, true, false, not}
 use mathlib.Core.List.{List, [], _∷_}
-use Prim.Native.Nat.{ℕ, _+_, _<_, _^_}
+use Prim.Native.Nat.{ℕ, _+_, _*_, _/_, _<_, _^_}
 use native.Mathlib.Omega.{arith}
 use lib.Dec.{eqb, leb, ltb}
 use lib.ListN.{length}
@@ -29,7 +29,7 @@ use Rattle.history.proofs.Slots.{found-key}
 use Rattle.history.proofs.Links.{Tells}
 use Rattle.network.proofs.Ways as networkWays
 use Rattle.aps.proofs.Ways as apsWays
-use Rattle.history.proofs.Stands.{given-none, Stands, sender-some, slot-for, stands}
+use Rattle.history.proofs.Stands.{given-none, Stands, sender-some, half-is, slot-for, stands}
 use Rattle.cipher.specs.Ccm.{Verdict, valid, invalid}
 use Rattle.frames.specs.declared.Layer.{Layer}
 use Rattle.frames.specs.declared.Layer.the-variants.{Network, Aps}
@@ -40,11 +40,11 @@ use Rattle.frames.proofs.Found.{secured-frame}
 use Rattle.board.specs.declared.Board.{Board}
 use Rattle.board.specs.declared.Place.{Place}
 use Rattle.board.specs.declared.Place.the-variants.{At, Absent}
-use Rattle.board.specs.Rows.{listsFit}
+use Rattle.board.specs.Rows.{legal, listsFit, half}
 use Rattle.board.specs.State.{slotAt, linkAt}
 use Rattle.board.specs.Sending.{Framed}
 use Rattle.board.specs.Requests.{slotOf, linkOf}
-use Rattle.board.proofs.Found.{slot-place}
+use Rattle.board.proofs.Found.{slot-place, legal-twice}
 use Rattle.seals.specs.Sealing.{messageOf, isValid, genuine}
 use Rattle.network.specs.Opening.{Lent, floorAt, floorOf, rowFor}
 use Rattle.aps.specs.Opening.{keyNamed}
@@ -115,7 +115,8 @@ key-nowhere (forgot y a ∷ h) = key-nowhere h
 key-nowhere (heard y r ∷ h) = key-nowhere h
 key-nowhere (sent s ∷ h) = key-nowhere h
 
-module _ (z : Settings) (x : Held) (h : List Event) (w : Stands z x h) (f : List ℕ) (g : ℕ) (o : List ℕ) (octets : Octets f) where
+module _ (z : Settings) (m : ℕ) (fit : legal (2 * m) ≡ true) (x : Held) (h : List Event) (w : Stands m x h) (f : List ℕ) (g : ℕ)
+    (o : List ℕ) (octets : Octets f) where
   abbrev b : Board
   b = x .board
 
@@ -127,74 +128,76 @@ module _ (z : Settings) (x : Held) (h : List Event) (w : Stands z x h) (f : List
   abbrev N : network.Opening → Bool
   N r = not (refuses (calls.gave (r .answer) (r .leaves .out)))
 
-  fits : listsFit z (x .lists) ≡ true
+  fits : listsFit (x .lists) ≡ true
   unfolding listsFit
-  fits = rw (eq-eqb _ _ (w .rows .addrs), eq-eqb _ _ (w .rows .floors))
+  fits = rw (w .rows .addrs, w .rows .floors, fit, eq-eqb (2 * m) (2 * m) refl)
 
   module _ (s : Secured) (e : reading z Network f 0 ≡ secured s) where
-    tell-row : (k : Key) (i : ℕ) → i < 2 → N (network.admitted f s lw (messageOf z k f s) (rowFor z (x .lists) i (s .sender)))
-        ≡ both (genuine z k f s) (room z h (slot i) (s .sender))
+    tell-row : (k : Key) (i : ℕ) → i < 2 → N (network.admitted f s lw (messageOf z k f s) (rowFor m (x .lists) i (s .sender)))
+        ≡ both (genuine z k f s) (room m h (slot i) (s .sender))
     unfolding network.admitted genuine
     tell-row k i i< =
-        go (messageOf z k f s) (rowFor z (x .lists) i (s .sender))
+        go (messageOf z k f s) (rowFor m (x .lists) i (s .sender))
         ∙ ap (both (isValid (messageOf z k f s)))
-        (room-told z (w .rows) i i< (s .sender) (sender-some z Network f 0 s e)
-        ∙ room-names (z .rows) (s .sender) (heardIn h (slot i)))
+        (room-told m (w .rows) i i< (s .sender) (sender-some z Network f 0 s e)
+        ∙ room-names m (s .sender) (heardIn h (slot i)))
       where
         go : (d : Verdict) (p : Place) → N (network.admitted f s lw d p) ≡ both (isValid d) (there p)
         go invalid p = refl
         go (valid n) Absent = refl
         go (valid n) (At r) = refl
 
-    tell-under : (k : Key) (i : ℕ) → i < 2 → N (network.openedUnder z k i f s lw)
+    tell-under : (k : Key) (i : ℕ) → i < 2 → N (network.openedUnder z m k i f s lw)
         ≡ both (ltb (s .counter) top)
-        (both (aboveAll (s .sender) (s .counter) (heardIn h (slot i))) (both (genuine z k f s) (room z h (slot i) (s .sender))))
+        (both (aboveAll (s .sender) (s .counter) (heardIn h (slot i))) (both (genuine z k f s) (room m h (slot i) (s .sender))))
     unfolding network.openedUnder floorOf
     tell-under k i i< =
-        two-checks N (eqb (s .counter) top) (ltb (s .counter) (floorOf z (x .lists) i (s .sender))) _ _
-        (network.admitted f s lw (messageOf z k f s) (rowFor z (x .lists) i (s .sender))) refl refl
-        ∙ ap₂ (λ (t u : Bool). both t (both u (N (network.admitted f s lw (messageOf z k f s) (rowFor z (x .lists) i (s .sender))))))
+        two-checks N (eqb (s .counter) top) (ltb (s .counter) (floorOf m (x .lists) i (s .sender))) _ _
+        (network.admitted f s lw (messageOf z k f s) (rowFor m (x .lists) i (s .sender))) refl refl
+        ∙ ap₂ (λ (t u : Bool). both t (both u (N (network.admitted f s lw (messageOf z k f s) (rowFor m (x .lists) i (s .sender))))))
         (sym (below-top (s .counter) (counter-low z Network f 0 s octets e)))
-        (above-floor (s .sender) (s .counter) (floorOf z (x .lists) i (s .sender)) (heardIn h (slot i)) floor-is)
+        (above-floor (s .sender) (s .counter) (floorOf m (x .lists) i (s .sender)) (heardIn h (slot i)) floor-is)
         ∙ ap (λ (t : Bool). both (ltb (s .counter) top) (both (aboveAll (s .sender) (s .counter) (heardIn h (slot i))) t)) (tell-row k i i<)
       where
-        floor-is : floorOf z (x .lists) i (s .sender) ≡ bound (counters (s .sender) (heardIn h (slot i)))
+        floor-is : floorOf m (x .lists) i (s .sender) ≡ bound (counters (s .sender) (heardIn h (slot i)))
         floor-is =
-            ap (floorAt (x .lists .floors)) (row-there z (w .rows) i i< (s .sender))
+            ap (floorAt (x .lists .floors)) (row-there m (w .rows) i i< (s .sender))
             ∙ w .rows .floor i (s .sender) i< (sender-some z Network f 0 s e)
 
     tell-keyed : (p : Place) → slotOf (b .slots) (s .sequence) ≡ p
-        → N (network.openedKeyed z (b .slots) f s lw p) ≡ passesUnder z h Network f s (holderAt p) (keyIn h (holderAt p))
+        → N (network.openedKeyed z m (b .slots) f s lw p) ≡ passesUnder z m h Network f s (holderAt p) (keyIn h (holderAt p))
     unfolding network.openedKeyed passesUnder
     tell-keyed (At i) q =
         let i< = slot-place (b .slots) (s .sequence) i q in
         tell-under (theKey (slotAt (b .slots) i .key)) i i<
-        ∙ ap (passesUnder z h Network f s (slot i)) (sym (found-key (w .slots) (s .sequence) i q i<))
-    tell-keyed Absent q = ap (passesUnder z h Network f s nowhere) (sym (key-nowhere h))
+        ∙ ap (passesUnder z m h Network f s (slot i)) (sym (found-key (w .slots) (s .sequence) i q i<))
+    tell-keyed Absent q = ap (passesUnder z m h Network f s nowhere) (sym (key-nowhere h))
 
   tell-read : (r : Reading) → reading z Network f 0 ≡ r → ((n : ℕ) → r ≡ plain n → ⊥)
-      → N (network.openedRead z (b .slots) f lw r) ≡ passesRead z h Network f r
+      → N (network.openedRead z m (b .slots) f lw r) ≡ passesRead z m h Network f r
   unfolding network.openedRead passesRead
   tell-read (refused n) e ne = refl
   tell-read (plain n) e ne = absurd (ne n refl)
   tell-read (secured s) e ne =
       tell-keyed s e (slotOf (b .slots) (s .sequence)) refl
-      ∙ ap (λ (p : Place). passesUnder z h Network f s (holderAt p) (keyIn h (holderAt p))) (sym (slot-for z x h w (s .sequence)))
+      ∙ ap (λ (p : Place). passesUnder z m h Network f s (holderAt p) (keyIn h (holderAt p))) (sym (slot-for z m x h w (s .sequence)))
 
   pub tell-network : ((n : ℕ) → reading z Network f 0 ≡ plain n → ⊥)
-      → not (refuses (step z (opening Network f g o) x .reply)) ≡ passes z h Network f g o
+      → not (refuses (step z (opening Network f g o) x .reply)) ≡ passes z m h Network f g o
   unfolding network.openNetwork passes
   tell-network ne =
-      two-checks N (not (both (leb longest (length o)) (listsFit z (x .lists)))) (ltb longest (length f)) _ _
-      (network.openedRead z (b .slots) f lw (reading z Network f 0)) refl refl
-      ∙ ap₂ (λ (t u : Bool). both t (both u (N (network.openedRead z (b .slots) f lw (reading z Network f 0)))))
+      two-checks N (not (both (leb longest (length o)) (listsFit (x .lists)))) (ltb longest (length f)) _ _
+      (network.openedRead z (half (x .lists)) (b .slots) f lw (reading z Network f 0)) refl refl
+      ∙ ap₂ (λ (t u : Bool). both t (both u (N (network.openedRead z (half (x .lists)) (b .slots) f lw (reading z Network f 0)))))
       room-there (sym (leb-ltb (length f) longest))
+      ∙ ap (λ (y : ℕ). both (leb longest (length o)) (both (leb (length f) longest)
+      (N (network.openedRead z y (b .slots) f lw (reading z Network f 0))))) (half-is z m x h w)
       ∙ ap (λ (t : Bool). both (leb longest (length o)) (both (leb (length f) longest) t))
-      (tell-read (reading z Network f 0) refl ne ∙ ap (passesRead z h Network f) (sym (given-none z f g)))
+      (tell-read (reading z Network f 0) refl ne ∙ ap (passesRead z m h Network f) (sym (given-none z f g)))
     where
-      room-there : not (not (both (leb longest (length o)) (listsFit z (x .lists)))) ≡ leb longest (length o)
+      room-there : not (not (both (leb longest (length o)) (listsFit (x .lists)))) ≡ leb longest (length o)
       room-there =
-          not-twice (both (leb longest (length o)) (listsFit z (x .lists))) ∙ ap (both (leb longest (length o))) fits
+          not-twice (both (leb longest (length o)) (listsFit (x .lists))) ∙ ap (both (leb longest (length o))) fits
           ∙ both-true (leb longest (length o))
 
   -- an unsecured one is handed out under no key
@@ -211,7 +214,7 @@ module _ (z : Settings) (x : Held) (h : List Event) (w : Stands z x h) (f : List
   module _ (s : Secured) (e : reading z Aps f g ≡ secured s) where
     tell-entry : (i : ℕ) → Tells (b .links) (At i) (keyIn h (link (s .sender))) (counters (s .sender) (heardIn h (link (s .sender))))
         → A (aps.openedUnder z b f s o i)
-        ≡ passesUnder z h Aps f s (link (s .sender)) (key 0 (theKey (linkAt (b .links) i .key)))
+        ≡ passesUnder z m h Aps f s (link (s .sender)) (key 0 (theKey (linkAt (b .links) i .key)))
     unfolding aps.openedUnder aps.admitted passesUnder genuine
     tell-entry i t =
         two-checks A (eqb (s .counter) top) (ltb (s .counter) (linkAt (b .links) i .floor)) _ _ (aps.admitted b f s o i message) refl refl
@@ -233,19 +236,19 @@ module _ (z : Settings) (x : Held) (h : List Event) (w : Stands z x h) (f : List
 
     tell-link : (p : Place) → linkOf (b .links) (s .sender) ≡ p
         → Tells (b .links) p (keyIn h (link (s .sender))) (counters (s .sender) (heardIn h (link (s .sender))))
-        → A (aps.openedKeyed z b f s o p) ≡ passesUnder z h Aps f s (link (s .sender)) (keyIn h (link (s .sender)))
+        → A (aps.openedKeyed z b f s o p) ≡ passesUnder z m h Aps f s (link (s .sender)) (keyIn h (link (s .sender)))
     unfolding aps.openedKeyed passesUnder
-    tell-link (At i) q t = tell-entry i t ∙ ap (passesUnder z h Aps f s (link (s .sender))) (sym (t .0))
-    tell-link Absent q t = ap (passesUnder z h Aps f s (link (s .sender))) (sym t)
+    tell-link (At i) q t = tell-entry i t ∙ ap (passesUnder z m h Aps f s (link (s .sender))) (sym (t .0))
+    tell-link Absent q t = ap (passesUnder z m h Aps f s (link (s .sender))) (sym t)
 
   tell-read-aps : (r : Reading) → reading z Aps f g ≡ r → ((n : ℕ) → r ≡ plain n → ⊥)
-      → A (aps.openedRead z b f o r) ≡ passesRead z h Aps f r
+      → A (aps.openedRead z b f o r) ≡ passesRead z m h Aps f r
   unfolding aps.openedRead passesRead
   tell-read-aps (refused n) e ne = refl
   tell-read-aps (plain n) e ne = absurd (ne n refl)
   tell-read-aps (secured s) e ne = tell-link s e (linkOf (b .links) (s .sender)) refl (w .links .tells (s .sender))
 
-  pub tell-aps : ((n : ℕ) → reading z Aps f g ≡ plain n → ⊥) → not (refuses (step z (opening Aps f g o) x .reply)) ≡ passes z h Aps f g o
+  pub tell-aps : ((n : ℕ) → reading z Aps f g ≡ plain n → ⊥) → not (refuses (step z (opening Aps f g o) x .reply)) ≡ passes z m h Aps f g o
   unfolding aps.openAps passes
   tell-aps ne =
       two-checks A (ltb (length o) longest) (ltb longestAps (length f)) _ _ (aps.openedRead z b f o (reading z Aps f g)) refl refl
@@ -261,7 +264,7 @@ module _ (z : Settings) (x : Held) (h : List Event) (w : Stands z x h) (f : List
   -- ---- either layer
 
   pub tell : (l : Layer) → ((n : ℕ) → reading z l f g ≡ plain n → ⊥)
-      → not (refuses (step z (opening l f g o) x .reply)) ≡ passes z h l f g o
+      → not (refuses (step z (opening l f g o) x .reply)) ≡ passes z m h l f g o
   tell Network ne = tell-network (λ n e. ne n (given-none z f g ∙ e))
   tell Aps ne = tell-aps ne
 
@@ -269,11 +272,12 @@ module _ (z : Settings) (x : Held) (h : List Event) (w : Stands z x h) (f : List
   clear Network n e = clear-network n (sym (given-none z f g) ∙ e)
   clear Aps n e = clear-aps n e
 
-  pub rightly : (l : Layer) (r : Reading) → reading z l f g ≡ r → Rightly r (step z (opening l f g o) x .reply) (passes z h l f g o)
+  pub rightly : (l : Layer) (r : Reading) → reading z l f g ≡ r → Rightly r (step z (opening l f g o) x .reply) (passes z m h l f g o)
   rightly l (secured s) e = tell l (λ n q. plain-not n s (sym q ∙ e))
   rightly l (refused k) e = tell l (λ n q. plain-refused n k (sym q ∙ e))
   rightly l (plain n) e = clear l n e
 
-pub second : (z : Settings) (own : ℕ) → Second z (replies z own)
-second z own cs l f g o octets =
-    rightly z (run z own cs) (story z (exchanges (replies z own) cs)) (stands z own cs) f g o octets l (reading z l f g) refl
+pub second : (z : Settings) (n own : ℕ) → legal n ≡ true → Second z (n / 2) (replies z n own)
+second z n own fit cs l f g o octets =
+    rightly z (n / 2) (ap legal (sym (legal-twice n fit)) ∙ fit) (run z n own cs) (story z (exchanges (replies z n own) cs))
+    (stands z n own fit cs) f g o octets l (reading z l f g) refl

@@ -10,16 +10,15 @@ use lib.Dec.{eqb, ltb}
 use lib.ListN.{length, getD, set}
 use lib.Seq.{getD-set-same, getD-set-other}
 use borrow.Author.Tests.{eqb-true, eqb-false, eq-eqb, ne-eqb, lt-ltb, le-ltb}
-use Rattle.settings.specs.Settings.{Settings}
 use Rattle.octets.specs.Choice.{if_then_else_, both}
 use Rattle.history.proofs.Searches.{same-or, first-ext, first-only, first-nowhere, bit, count-ext, count-none, count-all, count-less}
 use Rattle.history.proofs.Counters.{bound, bound-more, member, less, Distinct, no-one, one-more, member-less, member-other, distinct-less, length-less}
 use Rattle.history.proofs.Freed.{freed-in, freed-out}
-use Rattle.history.proofs.Rows.{In, slot-apart, slot-within, rowIs, inUse, placeOf, there, Rows, Mine, row-changes}
+use Rattle.history.proofs.Rows.{In, slot-apart, rowIs, inUse, placeOf, there, Rows, Mine, row-changes}
 use Rattle.board.specs.declared.Place.{Place}
 use Rattle.board.specs.declared.Place.the-variants.{At, Absent}
 use Rattle.board.specs.Rows.{lists, findRow, freed}
-use Rattle.board.proofs.Found.{first-found, first-none, rows-there}
+use Rattle.board.proofs.Found.{first-found, first-none, rows-there, slot-within}
 use Rattle.board.proofs.Cleared.{freed-length}
 use Rattle.network.specs.Opening.{floorAt, orFree, rowFor}
 
@@ -42,11 +41,8 @@ both-else i j a b x y el = go (eqb i j) refl (eqb a b) refl
     go true e false f = refl
     go false e u f = refl
 
-module _ (z : Settings) {al fl : List ℕ} {opened : ℕ → ℕ → List ℕ} {senders : ℕ → List ℕ} (w : Rows (z .rows) al fl opened senders)
-    (i : ℕ) (i< : i < 2) where
-  abbrev m : ℕ
-  m = z .rows
-
+module _ (m : ℕ) {al fl : List ℕ} {opened : ℕ → ℕ → List ℕ} {senders : ℕ → List ℕ} (w : Rows m al fl opened senders) (i : ℕ)
+    (i< : i < 2) where
   pub row-there : (a : ℕ) → findRow al (i * m) m a ≡ placeOf m al i a
   row-there a = rows-there al (i * m) m a (omega (arith, slot-within m i i<, w .addrs))
 
@@ -80,19 +76,19 @@ module _ (z : Settings) {al fl : List ℕ} {opened : ℕ → ℕ → List ℕ} {
           uses = ap not (g .passes) ∙ ap there (sym e) ∙ w .known i a i< az;
         }
 
-    row-for : rowFor z (lists al fl) i a ≡ orFree z (lists al fl) i (placeOf m al i a)
+    row-for : rowFor m (lists al fl) i a ≡ orFree m (lists al fl) i (placeOf m al i a)
     unfolding rowFor
-    row-for = ap (orFree z (lists al fl) i) (row-there a)
+    row-for = ap (orFree m (lists al fl) i) (row-there a)
 
-    takes : (r : ℕ) → rowFor z (lists al fl) i a ≡ At r → Takes r
+    takes : (r : ℕ) → rowFor m (lists al fl) i a ≡ At r → Takes r
     takes r e = go (placeOf m al i a) refl (sym row-for ∙ e)
       where
-        go : (p : Place) → placeOf m al i a ≡ p → orFree z (lists al fl) i p ≡ At r → Takes r
+        go : (p : Place) → placeOf m al i a ≡ p → orFree m (lists al fl) i p ≡ At r → Takes r
         go (At q) f g = own-row r (f ∙ g)
         go Absent f g = free-row r f (sym (row-there 0) ∙ g)
 
     -- "There is room if the sender was opened .. or if fewer .. were."
-    pub room-told : there (rowFor z (lists al fl) i a) ≡ (if member a (senders i) then true else ltb (length (senders i)) m)
+    pub room-told : there (rowFor m (lists al fl) i a) ≡ (if member a (senders i) then true else ltb (length (senders i)) m)
     room-told =
         ap there row-for ∙ go (placeOf m al i a) refl
         ∙ ap (λ (t : Bool). if t then true else ltb (length (senders i)) m) (w .known i a i< az)
@@ -107,13 +103,13 @@ module _ (z : Settings) {al fl : List ℕ} {opened : ℕ → ℕ → List ℕ} {
             (omega (arith, w .used i i<, count-all (inUse al) m (i * m) (λ k c d. ap not (first-none (rowIs al 0) m (i * m) e k c d)))))
 
         go : (p : Place) → placeOf m al i a ≡ p
-            → there (orFree z (lists al fl) i p) ≡ (if there p then true else ltb (length (senders i)) m)
+            → there (orFree m (lists al fl) i p) ≡ (if there p then true else ltb (length (senders i)) m)
         go (At q) f = refl
         go Absent f = ap there (row-there 0) ∙ free (placeOf m al i 0) refl
 
     -- ---- heard
 
-    pub hear-rows : (r n : ℕ) → rowFor z (lists al fl) i a ≡ At r → bound (opened i a) ≤ n
+    pub hear-rows : (r n : ℕ) → rowFor m (lists al fl) i a ≡ At r → bound (opened i a) ≤ n
         → Rows m (set al r a) (set fl r (n + 1)) (λ j b. if both (eqb i j) (eqb a b) then n ∷ opened j b else opened j b)
         (λ j. if eqb i j then a ∷ less a (senders j) else senders j)
     hear-rows r n e h =

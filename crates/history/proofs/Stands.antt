@@ -3,7 +3,7 @@
 use mathlib.Core.Path.{_≡_, refl, sym, subst, ap, _∙_}
 use mathlib.Core.Bool.{Bool, true, false, not}
 use mathlib.Core.List.{List, [], _∷_, _++_}
-use Prim.Native.Nat.{ℕ, _+_, _-_, _*_, _<_, _≤_}
+use Prim.Native.Nat.{ℕ, _+_, _-_, _*_, _/_, _<_, _≤_}
 use native.Mathlib.Omega.{arith}
 use lib.Dec.{eqb, ltb}
 use lib.ListN.{length, set, take}
@@ -35,12 +35,12 @@ use Rattle.board.specs.declared.Board.{Board}
 use Rattle.board.specs.declared.Link.{Link}
 use Rattle.board.specs.declared.Place.{Place}
 use Rattle.board.specs.declared.Place.the-variants.{At, Absent}
-use Rattle.board.specs.Rows.{lists, listsFit, findRow}
+use Rattle.board.specs.Rows.{lists, legal, listsFit, half, findRow}
 use Rattle.board.specs.State.{slotAt, linkAt, carries, pairs, noLink, fresh, withSlot, withLink}
 use Rattle.board.specs.Sending.{Framed, spent}
 use Rattle.board.specs.Requests.{Left, Changed, Freed, slotOf, linkOf, freeLink, holds, added, make}
-use Rattle.board.proofs.Found.{slot-place}
-use Rattle.network.specs.Opening.{floorAt, floorOf}
+use Rattle.board.proofs.Found.{slot-place, legal-twice}
+use Rattle.network.specs.Opening.{floorAt, floorOf, rowFor}
 use Rattle.aps.specs.Opening.{withFloor}
 use Rattle.commands.specs.declared.Command.{Command}
 use Rattle.commands.specs.Writing.{apsRaised}
@@ -53,20 +53,21 @@ use Rattle.seals.specs.Sealing.{plainFrame}
 use Rattle.octets.specs.Lists.{onto, eqList}
 use Rattle.aps.proofs.Ways as aps
 
-pub record Stands (z : Settings) (x : Held) (h : List Event) : Type 0 where
+-- with m rows a slot
+pub record Stands (m : ℕ) (x : Held) (h : List Event) : Type 0 where
   pub slots : Slots (x .board .slots) (λ i. keyIn h (slot i))
-  pub rows : Rows (z .rows) (x .lists .addrs) (x .lists .floors) (λ i a. counters a (heardIn h (slot i))) (λ i. names (heardIn h (slot i)))
+  pub rows : Rows m (x .lists .addrs) (x .lists .floors) (λ i a. counters a (heardIn h (slot i))) (λ i. names (heardIn h (slot i)))
   pub links : Links (x .board .links) (λ a. keyIn h (link a)) (λ a. counters a (heardIn h (link a)))
 
-pub stands-fresh : (z : Settings) (own : ℕ) → Stands z (start z own) []
+pub stands-fresh : (m n own : ℕ) → n ≡ 2 * m → Stands m (start n own) []
 unfolding make
-stands-fresh z own = choose P (noAddress own) _ _ (λ _. fresh-so 0) (λ _. fresh-so own)
+stands-fresh m n own e = rw e (choose P (noAddress own) _ _ (λ _. fresh-so 0) (λ _. fresh-so own))
   where
     P : Changed → Type 0
-    P r = Stands z (held (r .board) (lists (zeroes (2 * z .rows)) (zeroes (2 * z .rows)))) []
+    P r = Stands m (held (r .board) (lists (zeroes (2 * m)) (zeroes (2 * m)))) []
 
-    fresh-so : (a : ℕ) → Stands z (held (fresh a) (lists (zeroes (2 * z .rows)) (zeroes (2 * z .rows)))) []
-    fresh-so a = record { slots = slots-fresh a; rows = rows-fresh (z .rows); links = links-fresh a }
+    fresh-so : (a : ℕ) → Stands m (held (fresh a) (lists (zeroes (2 * m)) (zeroes (2 * m)))) []
+    fresh-so a = record { slots = slots-fresh a; rows = rows-fresh m; links = links-fresh a }
 
 -- a function of a choice
 pick-over : {A B : Type 0} (f : A → B) (t : Bool) (x y : A) → (if t then f x else f y) ≡ f (if t then x else y)
@@ -91,13 +92,17 @@ sender-some z Aps f g s e u = clash (ap noAddress u) (secured-frame z Aps f g s 
 
 -- ---- one call
 
-module _ (z : Settings) (x : Held) (h : List Event) (w : Stands z x h) where
+module _ (z : Settings) (m : ℕ) (x : Held) (h : List Event) (w : Stands m x h) where
   abbrev b : Board
   b = x .board
 
+  -- the number that is taken from the lists is the slots'
+  pub half-is : half (x .lists) ≡ m
+  half-is = let long = w .rows .addrs in omega arith
+
   -- call c may end in y: what y leaves means what the call and y's reply tell
   abbrev Ends : Call → Step → Type 0
-  Ends c y = Stands z (y .after) (eventsOf z h c (y .reply) ++ h)
+  Ends c y = Stands m (y .after) (eventsOf z h c (y .reply) ++ h)
 
   abbrev After : Call → Type 0
   After c = Ends c (step z c x)
@@ -107,7 +112,7 @@ module _ (z : Settings) (x : Held) (h : List Event) (w : Stands z x h) where
   pub stands-install : (i n : ℕ) (k : Key) → After (install i n k)
   unfolding requests.install
   stands-install i n k =
-      choose P (not (listsFit z (x .lists))) _ _ (λ _. w) λ _.
+      choose P (not (listsFit (x .lists))) _ _ (λ _. w) λ _.
       choose P (ltb 1 i) _ _ (λ _. w) λ e.
       choose P (carries (slotAt (b .slots) (1 - i)) n) _ _ (λ _. w) λ _.
       choose P (holds (slotAt (b .slots) i) n k) _ _ (λ f. again (ltb-false 1 i e) f) (λ f. anew (ltb-false 1 i e) f)
@@ -116,24 +121,25 @@ module _ (z : Settings) (x : Held) (h : List Event) (w : Stands z x h) where
       P r = Ends (install i n k) (byLists r)
 
       new : Held
-      new = held (withSlot b i (requests.installed n k)) (requests.rowsFreed z (x .lists) i)
+      new = held (withSlot b i (requests.installed n k)) (requests.rowsFreed (half (x .lists)) (x .lists) i)
 
       told : i ≤ 1 → holds (slotAt (b .slots) i) n k ≡ sameKey (keyIn h (slot i)) (key n k)
       told l = keeps-same (slotAt (b .slots) i) (keyIn h (slot i)) n k (w .slots .keeps i (omega arith))
 
-      again : i ≤ 1 → holds (slotAt (b .slots) i) n k ≡ true → Stands z x (installing h (slot i) (key n k) ++ h)
+      again : i ≤ 1 → holds (slotAt (b .slots) i) n k ≡ true → Stands m x (installing h (slot i) (key n k) ++ h)
       again l f = rw (sym (told l) ∙ f) w
 
-      put : i < 2 → Stands z new (keyed (slot i) (key n k) ∷ h)
+      put : i < 2 → Stands m new (keyed (slot i) (key n k) ∷ h)
       put l =
+          rw half-is
           record {
             slots = install-slot (w .slots) i n k l;
-            rows = rows-ext (clear-rows z (w .rows) i l) (λ j b. pick-over (counters b) (eqb i j) [] (heardIn h (slot j)))
+            rows = rows-ext (clear-rows m (w .rows) i l) (λ j b. pick-over (counters b) (eqb i j) [] (heardIn h (slot j)))
                 (λ j. pick-over names (eqb i j) [] (heardIn h (slot j)));
             links = w .links;
           }
 
-      anew : i ≤ 1 → holds (slotAt (b .slots) i) n k ≡ false → Stands z new (installing h (slot i) (key n k) ++ h)
+      anew : i ≤ 1 → holds (slotAt (b .slots) i) n k ≡ false → Stands m new (installing h (slot i) (key n k) ++ h)
       anew l f = rw (sym (told l) ∙ f) (put (omega arith))
 
   pub stands-switch : (n : ℕ) → After (switch n)
@@ -147,10 +153,10 @@ module _ (z : Settings) (x : Held) (h : List Event) (w : Stands z x h) where
   pub stands-forget : (i a : ℕ) → After (forget i a)
   unfolding requests.forget
   stands-forget i a =
-      choose P (not (listsFit z (x .lists))) _ _ (λ _. w) λ _.
+      choose P (not (listsFit (x .lists))) _ _ (λ _. w) λ _.
       choose P (ltb 1 i) _ _ (λ _. w) λ e.
       choose P (eqb a 0) _ _ (λ _. w) λ f.
-      go (ltb-false 1 i e) (eqb-false a 0 f) (findRow (x .lists .addrs) (i * z .rows) (z .rows) a) refl
+      go (ltb-false 1 i e) (eqb-false a 0 f) (findRow (x .lists .addrs) (i * half (x .lists)) (half (x .lists)) a) refl
     where
       lost : (j c : ℕ) → (if both (eqb i j) (eqb a c) then [] else counters c (heardIn h (slot j)))
           ≡ counters c (if eqb i j then without a (heardIn h (slot j)) else heardIn h (slot j))
@@ -176,12 +182,13 @@ module _ (z : Settings) (x : Held) (h : List Event) (w : Stands z x h) where
       P : Freed → Type 0
       P r = Ends (forget i a) (byRows x r)
 
-      go : i ≤ 1 → (a ≡ 0 → ⊥) → (p : Place) → findRow (x .lists .addrs) (i * z .rows) (z .rows) a ≡ p → P (requests.forgetAt (x .lists) p)
+      go : i ≤ 1 → (a ≡ 0 → ⊥) → (p : Place) → findRow (x .lists .addrs) (i * half (x .lists)) (half (x .lists)) a ≡ p → P (requests.forgetAt (x .lists) p)
       go l az (At r) e =
           let i< : i < 2 = omega arith in
+          let at-half = ap (λ (y : ℕ). findRow (x .lists .addrs) (i * y) y a) (sym half-is) in
           record {
             slots = w .slots;
-            rows = rows-ext (lose-rows z (w .rows) i i< a az r (sym (row-there z (w .rows) i i< a) ∙ e)) lost gone;
+            rows = rows-ext (lose-rows m (w .rows) i i< a az r (sym (row-there m (w .rows) i i< a) ∙ at-half ∙ e)) lost gone;
             links = w .links;
           }
       go l az Absent e = w
@@ -267,12 +274,12 @@ module _ (z : Settings) (x : Held) (h : List Event) (w : Stands z x h) where
       left s r = held b (lists (set (x .lists .addrs) r (s .sender)) (set (x .lists .floors) r (s .counter + 1)))
 
       passed : (s : Secured) (i r n : ℕ) (p : List ℕ) → network.Passed z b f lent s i r
-          → Stands z (left s r) (hearing h Network f (take n p) (reading z Network f g) ++ h)
+          → Stands m (left s r) (hearing h Network f (take n p) (reading z Network f g) ++ h)
       passed s i r n p t =
           rw (given-none z f g ∙ t .read, slot-for (s .sequence), t .found)
           (record {
             slots = w .slots;
-            rows = rows-ext (hear-rows z (w .rows) i i< (s .sender) az r (s .counter) (t .row) least) (λ j c. more (eqb i j) j c)
+            rows = rows-ext (hear-rows m (w .rows) i i< (s .sender) az r (s .counter) row least) (λ j c. more (eqb i j) j c)
                 (λ j. pick-over names (eqb i j) (new ∷ heardIn h (slot j)) (heardIn h (slot j)));
             links = w .links;
           })
@@ -292,10 +299,14 @@ module _ (z : Settings) (x : Held) (h : List Event) (w : Stands z x h) where
           az : s .sender ≡ 0 → ⊥
           az = sender-some z Network f 0 s (t .read)
 
+          row : rowFor m (x .lists) i (s .sender) ≡ At r
+          row = ap (λ (y : ℕ). rowFor y (x .lists) i (s .sender)) (sym half-is) ∙ t .row
+
           least : bound (counters (s .sender) (heardIn h (slot i))) ≤ s .counter
           least =
-              let row = ap (floorAt (x .lists .floors)) (row-there z (w .rows) i i< (s .sender)) in
-              omega (arith, t .least, w .rows .floor i (s .sender) i< az, row)
+              let there = ap (floorAt (x .lists .floors)) (row-there m (w .rows) i i< (s .sender)) in
+              let halves = ap (λ (y : ℕ). floorOf y (x .lists) i (s .sender)) half-is in
+              omega (arith, t .least, w .rows .floor i (s .sender) i< az, there, halves)
 
   pub stands-aps : (f : List ℕ) (g : ℕ) (o : List ℕ) → After (opening Aps f g o)
   unfolding pairs
@@ -306,7 +317,7 @@ module _ (z : Settings) (x : Held) (h : List Event) (w : Stands z x h) where
       P r = Ends (opening Aps f g o) (byFrame x r)
 
       passed : (s : Secured) (i n : ℕ) (p : List ℕ) → aps.Passed z b f g s i
-          → Stands z (held (withFloor b i (s .counter + 1)) (x .lists)) (hearing h Aps f (take n p) (reading z Aps f g) ++ h)
+          → Stands m (held (withFloor b i (s .counter + 1)) (x .lists)) (hearing h Aps f (take n p) (reading z Aps f g) ++ h)
       passed s i n p t = rw (t .read) (record { slots = w .slots; rows = w .rows; links = links-ext put keys-so opened-so })
         where
           a : ℕ
@@ -380,7 +391,7 @@ module _ (z : Settings) (x : Held) (h : List Event) (w : Stands z x h) where
   pub stands-route : (f : List ℕ) (p : ProtectionTold) → After (routing f p)
   stands-route f p = go (route z f p)
     where
-      go : (t : RouteTold) → Stands z x (eventsOf z h (routing f p) (sentOn t (handedOn z Whole f p)) ++ h)
+      go : (t : RouteTold) → Stands m x (eventsOf z h (routing f p) (sentOn t (handedOn z Whole f p)) ++ h)
       go (onward a) = w
       go (halted n) = w
 
@@ -401,6 +412,8 @@ module _ (z : Settings) (x : Held) (h : List Event) (w : Stands z x h) where
   stands-step (routing f p) = stands-route f p
 
 -- after any calls
-pub stands : (z : Settings) (own : ℕ) (cs : List Call) → Stands z (run z own cs) (story z (exchanges (replies z own) cs))
-stands z own [] = stands-fresh z own
-stands z own (c ∷ cs) = stands-step z (run z own cs) (story z (exchanges (replies z own) cs)) (stands z own cs) c
+pub stands : (z : Settings) (n own : ℕ) → legal n ≡ true → (cs : List Call)
+    → Stands (n / 2) (run z n own cs) (story z (exchanges (replies z n own) cs))
+stands z n own fit [] = stands-fresh (n / 2) n own (legal-twice n fit)
+stands z n own fit (c ∷ cs) =
+    stands-step z (n / 2) (run z n own cs) (story z (exchanges (replies z n own) cs)) (stands z n own fit cs) c

@@ -2,8 +2,9 @@
 -- that the contracts cite.
 -- Assumes nothing.
 use mathlib.Core.Path.{_≡_}
+use mathlib.Core.Bool.{true}
 use mathlib.Core.List.{List, [], _∷_}
-use Prim.Native.Nat.{ℕ, _*_, _^_, _<_}
+use Prim.Native.Nat.{ℕ, _/_, _^_, _<_}
 use lib.ListN.{replicate}
 use Rattle.settings.specs.Settings.{Settings, ours}
 use Rattle.history.specs.Calls.{Call, install, switch, addLink, removeLink, forget, opening, sealing, looking, writing, routing, Reply, answered, gave, looked, sentOn, Replies}
@@ -12,7 +13,7 @@ use Rattle.answers.specs.Numbers.{done}
 use Rattle.frames.specs.declared.Layer.the-variants.{Network, Aps}
 use Rattle.board.specs.declared.Board.{Board}
 use Rattle.board.specs.Requests.{Left, Changed, Freed}
-use Rattle.board.specs.Rows.{Lists, lists}
+use Rattle.board.specs.Rows.{Lists, lists, legal}
 use Rattle.board.specs.Sending.{Framed}
 use Rattle.board.specs.Requests as requests
 use Rattle.network.specs.Opening as network
@@ -56,11 +57,11 @@ byFrame x r = to (gave (r .answer) (r .out)) (held (r .board) (x .lists))
 
 -- one call; routing asks the router where the inner frame goes, and for that frame whole
 abbrev pub step : Settings → Call → Held → Step
-step z (install i n k) x = byLists (requests.install z (x .board) (x .lists) i n k)
+step z (install i n k) x = byLists (requests.install (x .board) (x .lists) i n k)
 step z (switch n) x = byBoard x (requests.switch (x .board) n)
 step z (addLink a k) x = byBoard x (requests.addLink (x .board) a k)
 step z (removeLink a) x = byBoard x (requests.removeLink (x .board) a)
-step z (forget i a) x = byRows x (requests.forget z (x .lists) i a)
+step z (forget i a) x = byRows x (requests.forget (x .lists) i a)
 step z (opening Network f g o) x = byNetwork x (network.openNetwork z (x .board) f (record { lists = x .lists; out = o }))
 step z (opening Aps f g o) x = byFrame x (aps.openAps z (x .board) f g o)
 step z (sealing Network f a k o) x = byFrame x (networkSeals.sealNetwork z (x .board) f o)
@@ -70,25 +71,27 @@ step z (looking Aps f g) x = to (looked (aps.lookAps z (x .board) f g)) x
 step z (writing a c k r o) x = byFrame x (commands.writeCommand z (x .board) a c k r o)
 step z (routing f p) x = to (sentOn (router.route z f p) (router.handedOn z Whole f p)) x
 
--- a fresh state, and what calls leave of it
-abbrev pub start : Settings → ℕ → Held
-start z own = held (requests.make own .board) (lists (replicate (2 * z .rows) 0) (replicate (2 * z .rows) 0))
+-- a fresh state with fresh lists of n rows, and what calls leave of it
+abbrev pub start : ℕ → ℕ → Held
+start n own = held (requests.make own .board) (lists (replicate n 0) (replicate n 0))
 
-abbrev pub run : Settings → ℕ → List Call → Held
-run z own [] = start z own
-run z own (c ∷ cs) = step z c (run z own cs) .after
+abbrev pub run : Settings → ℕ → ℕ → List Call → Held
+run z n own [] = start n own
+run z n own (c ∷ cs) = step z c (run z n own cs) .after
 
-abbrev pub replies : Settings → ℕ → Replies
-replies z own cs c = step z c (run z own cs) .reply
+abbrev pub replies : Settings → ℕ → ℕ → Replies
+replies z n own cs c = step z c (run z n own cs) .reply
 
--- ---- demand 3, of our board: over any settings, and of every own address for which a state is made
+-- ---- demand 3, of our board: over any settings, "over lists of one length" (document 02 (iii)), which may be any that is legal and
+-- of which half is the room, and of every own address for which a state is made
 
 abbrev pub Demand3 : Type 0
 Demand3 =
-    (z : Settings) (own : ℕ) → own < 2 ^ 64 → requests.make own .answer ≡ done
-    → First z (replies z own) × Second z (replies z own)
+    (z : Settings) (n own : ℕ) → legal n ≡ true → own < 2 ^ 64 → requests.make own .answer ≡ done
+    → First z (replies z n own) × Second z (n / 2) (replies z n own)
 
 -- the same of the routines: the contracts are at our settings
 abbrev pub OurDemand3 : Type 0
 OurDemand3 =
-    (own : ℕ) → own < 2 ^ 64 → requests.make own .answer ≡ done → First ours (replies ours own) × Second ours (replies ours own)
+    (n own : ℕ) → legal n ≡ true → own < 2 ^ 64 → requests.make own .answer ≡ done
+    → First ours (replies ours n own) × Second ours (n / 2) (replies ours n own)

@@ -48,7 +48,7 @@ rising (refused k ∷ rs) = false
 abbrev pub First : Settings → Replies → Type 0
 First z board = (cs : List Call) → SealsOctets cs → rising (readings z (sentIn (story z (exchanges board cs)))) ≡ true
 
--- ---- the second statement, with room for as many senders under a slot's key as the slot has rows (32)
+-- ---- the second statement, with room for m senders under a slot's key: "01's 32 reads half the length" (document 02 (iii))
 
 -- lengths: "network input over 116, APS over 108"
 abbrev pub longestAt : Layer → ℕ
@@ -67,28 +67,28 @@ aboveAll a n (r ∷ l) = both (if eqb (r .sender) a then ltb (r .counter) n else
 
 -- "There is room if the sender was opened under that installation and not forgotten since, or if fewer than 32 senders were."
 -- A link entry has one sender, its partner.
-abbrev pub room : Settings → List Event → Holder → ℕ → Bool
-room z h (slot i) a = if isFrom a (heardIn h (slot i)) then true else ltb (senders (heardIn h (slot i))) (z .rows)
-room z h (link p) a = true
-room z h nowhere a = false
+abbrev pub room : ℕ → List Event → Holder → ℕ → Bool
+room m h (slot i) a = if isFrom a (heardIn h (slot i)) then true else ltb (senders (heardIn h (slot i))) m
+room m h (link p) a = true
+room m h nowhere a = false
 
 -- key, counter, tag and room
-unfoldable pub passesUnder : Settings → List Event → Layer → List ℕ → Secured → Holder → Installation → Bool
-passesUnder z h l f s x none = false
-passesUnder z h l f s x (key n k) =
+unfoldable pub passesUnder : Settings → ℕ → List Event → Layer → List ℕ → Secured → Holder → Installation → Bool
+passesUnder z m h l f s x none = false
+passesUnder z m h l f s x (key n k) =
     both (ltb (s .counter) top)
     (both (aboveAll (s .sender) (s .counter) (heardIn h x))
-    (both (genuine z (keyAt l s k) f s) (room z h x (s .sender))))
+    (both (genuine z (keyAt l s k) f s) (room m h x (s .sender))))
 
 -- form: the frame is read as secured
-unfoldable pub passesRead : Settings → List Event → Layer → List ℕ → Reading → Bool
-passesRead z h l f (secured s) = passesUnder z h l f s (holderFor h l s) (keyIn h (holderFor h l s))
-passesRead z h l f (plain n) = false
-passesRead z h l f (refused n) = false
+unfoldable pub passesRead : Settings → ℕ → List Event → Layer → List ℕ → Reading → Bool
+passesRead z m h l f (secured s) = passesUnder z m h l f s (holderFor h l s) (keyIn h (holderFor h l s))
+passesRead z m h l f (plain n) = false
+passesRead z m h l f (refused n) = false
 
 -- lengths: "output under 116 octets"
-unfoldable pub passes : Settings → List Event → Layer → List ℕ → ℕ → List ℕ → Bool
-passes z h l f g o = both (leb longest (length o)) (both (leb (length f) (longestAt l)) (passesRead z h l f (reading z l f g)))
+unfoldable pub passes : Settings → ℕ → List Event → Layer → List ℕ → ℕ → List ℕ → Bool
+passes z m h l f g o = both (leb longest (length o)) (both (leb (length f) (longestAt l)) (passesRead z m h l f (reading z l f g)))
 
 -- a reply that tells a key's identifier
 abbrev pub tellsKey : Reply → Bool
@@ -109,7 +109,7 @@ Rightly (refused n) r t = not (refuses r) ≡ t
 Rightly (plain n) r t = tellsKey r ≡ false
 
 -- of a frame of octets, after any calls
-abbrev pub Second : Settings → Replies → Type 0
-Second z board =
+abbrev pub Second : Settings → ℕ → Replies → Type 0
+Second z m board =
     (cs : List Call) (l : Layer) (f : List ℕ) (g : ℕ) (o : List ℕ) → Octets f
-    → Rightly (reading z l f g) (board cs (opening l f g o)) (passes z (story z (exchanges board cs)) l f g o)
+    → Rightly (reading z l f g) (board cs (opening l f g o)) (passes z m (story z (exchanges board cs)) l f g o)

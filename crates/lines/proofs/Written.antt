@@ -14,7 +14,7 @@ use Rattle.octets.specs.Lists.{pasted}
 use Rattle.octets.proofs.Pasted.{pasted-fits, pasted-not}
 use Rattle.text.specs.Cursor.{ahead}
 use Rattle.text.specs.Decimal.{decimal, decimalIn}
-use Rattle.lines.specs.Answer.{more, wholeLine}
+use Rattle.lines.specs.Answer.{room, more, wholeLine}
 
 pub more-fits : (n : ℕ) (l s : List ℕ) → length l + length s ≤ n → more n l s ≡ l ++ s
 unfolding more
@@ -97,19 +97,23 @@ unfolding decimal
 digits k = length-decimal 20 k
 
 -- number, tab, answer and line feed one behind the other, in room enough
-pub whole-fits : (k : ℕ) (l : List ℕ) → length l ≤ 8192
-    → more 8214 (more 8214 (more 8214 (more 8214 [] (decimal k)) (9 ∷ [])) l) (10 ∷ []) ≡ wholeLine k l
+-- what a line has room for: number, tab, answer, line feed
+abbrev pub whole : ℕ
+whole = room + 22
+
+pub whole-fits : (k : ℕ) (l : List ℕ) → length l ≤ room
+    → more whole (more whole (more whole (more whole [] (decimal k)) (9 ∷ [])) l) (10 ∷ []) ≡ wholeLine k l
 unfolding wholeLine
 whole-fits k l h = go (decimal k) (digits k)
   where
     go : (d : List ℕ) → length d ≤ 20
-        → more 8214 (more 8214 (more 8214 (more 8214 [] d) (9 ∷ [])) l) (10 ∷ []) ≡ d ++ (9 ∷ []) ++ l ++ (10 ∷ [])
+        → more whole (more whole (more whole (more whole [] d) (9 ∷ [])) l) (10 ∷ []) ≡ d ++ (9 ∷ []) ++ l ++ (10 ∷ [])
     go d e =
         let a : length (d ++ (9 ∷ [])) ≡ length d + 1 = length-append d (9 ∷ []) in
         let b : length (d ++ (9 ∷ []) ++ l) ≡ length d + 1 + length l = length-append (d ++ (9 ∷ [])) l ∙ ap (λ m. m + length l) a in
         rw (
-          more-fits 8214 [] d (omega arith),
-          more-fits 8214 d (9 ∷ []) (omega arith),
-          more-fits 8214 (d ++ (9 ∷ [])) l (omega arith),
-          more-fits 8214 (d ++ (9 ∷ []) ++ l) (10 ∷ []) (omega arith),
+          more-fits whole [] d (omega arith),
+          more-fits whole d (9 ∷ []) (omega arith),
+          more-fits whole (d ++ (9 ∷ [])) l (omega arith),
+          more-fits whole (d ++ (9 ∷ []) ++ l) (10 ∷ []) (omega arith),
         )

@@ -11,7 +11,7 @@ use Rattle.lines.specs.declared.answer.Whole.{Whole}
 
 -- how many octets an answer has room for
 abbrev pub room : ℕ
-room = 8192
+room = 33860
 
 -- s behind l in a room of n octets; what has no room is left out whole
 unfoldable pub more : ℕ → List ℕ → List ℕ → List ℕ

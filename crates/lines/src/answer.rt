@@ -5,11 +5,11 @@ ghost use Rattle.text.specs.Decimal.{decimal as spelt};
 ghost use Rattle.text.specs.Hex.{hexOf, address as addressed};
 ghost use Rattle.lines.specs.Answer.{room, said, written, more, field, wholeLine};
 
-// The longest answer of the programs tells 128 rows, with at most 32 octets each.
-const ROOM: usize = 8192;
+// The longest answer of the programs tells 1,026 rows behind `ok`, with at most 33 octets each.
+const ROOM: usize = 2 + 1026 * 33;
 
 // An answer of that many octets, its line's number of 20 digits, a tab and a line feed.
-const WHOLE: usize = 8214;
+const WHOLE: usize = ROOM + 22;
 
 // What follows a line's number: the first n octets.
 pub struct Answer {

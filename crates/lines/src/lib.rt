@@ -1,10 +1,11 @@
-// Lines in and lines out: the line that is being read, its fields by their kinds, and the answer that
-// is being written.
+// Lines in and lines out: the line that is being read, its fields by their kinds, what it lends, and the
+// answer that is being written.
 //
 // No function here asks anything of its caller, and each says by an equation what it answers. Reading
 // the input and writing the output are the program's: no contract says what they do.
 mod answer;
 mod forms;
+mod lent;
 mod reader;
 mod reading;
 mod refusals;
@@ -25,6 +26,9 @@ pub use forms::numbers_of;
 pub use forms::octets_by;
 pub use forms::row_of;
 pub use forms::value_of;
+pub use lent::addresses_of;
+pub use lent::floors_of;
+pub use lent::room_of;
 pub use reader::Reader;
 pub use reader::fresh_reader;
 pub use reader::is_due;

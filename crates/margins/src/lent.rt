@@ -1,16 +1,13 @@
 // What every line is lent, made anew for it.
-ghost use mathlib.Core.Path.{_≡_};
-ghost use Prim.Native.Nat.{_≤_};
-ghost use lib.ListN.{length, take};
 use board::Active;
 use board::Board;
 use board::Link;
 use board::Slot;
 
-// The two lists of heard senders.
+// The two lists of heard senders, of which a line is lent the first rows.
 pub struct Lists {
-    pub addrs: [u64; 64],
-    pub floors: [u32; 64],
+    pub addrs: [u64; 1026],
+    pub floors: [u32; 1026],
 }
 
 // The fields are set directly: requests would take 255 commands to bring the APS counter to where
@@ -70,23 +67,15 @@ pub(crate) fn key_from(first: u8) -> [u8; 16] {
     ]
 }
 
-// Row 0 is used, and all rows of slot 1 are.
-pub(crate) fn made_lists() -> Lists {
-    let mut addrs = [0u64; 64];
-    let mut floors = [0u32; 64];
-    addrs[0] = 0xb1;
-    floors[0] = 100;
-    for r in 32..64 {
+// Row 0 is used, and all rows of slot 1 are, which start at half; so are those behind them.
+pub(crate) fn made_lists(half: usize) -> Lists {
+    let mut addrs = [0u64; 1026];
+    let mut floors = [0u32; 1026];
+    for r in half..1026 {
         addrs[r] = 0xc00 + r as u64;
         floors[r] = 1;
     }
+    addrs[0] = 0xb1;
+    floors[0] = 100;
     Lists { addrs, floors }
-}
-
-// As many octets of out as are lent. The two facts are what a part of out asks for.
-pub(crate) fn room_of(size: u64, out: &[u8]) -> usize
-    ensures { λ r. ⌜ (r ≤ length (now (out .entry))) × (r ≡ length (take r (now (out .entry)))) ⌝ }
-{
-    let lent = size as usize;
-    if out.len() < lent { out.len() } else { lent }
 }

@@ -16,12 +16,12 @@ use router::Portion;
 pub(crate) fn answer_to(long: bool, line: &[u8]) -> Answer {
     let w = text::which(
         b"open\topenaps\tseal\tsealaps\tremove\ttunnel\tdown\thash\tkeyedhash\tkey\tdigest\tinner\ttlvs\t\
-        value\theader\tauxiliary\tpayload\ttag",
+        value\theader\tauxiliary\tpayload\ttag\thall",
         text::field(line, 0),
     );
     let form = text::field(
         b".SG\t.SAG\t.SG\t.SABG\t.SA\t.SAG\t.SG\t.G\t.G\t.TG\t.TG\t.TG\t.TG\t\
-        .TBG\t.TG\t.TG\t.TG\t.TG",
+        .TBG\t.TG\t.TG\t.TG\t.TG\t.SSSG",
         w,
     );
     let x = fields_of(line, form);
@@ -52,6 +52,7 @@ fn answer_well(w: usize, x: Fields) -> Answer {
         14 => parts::portion(v[1], f, Portion::Header),
         15 => parts::portion(v[1], f, Portion::Auxiliary),
         16 => parts::portion(v[1], f, Portion::Payload),
-        _ => parts::portion(v[1], f, Portion::Tag),
+        17 => parts::portion(v[1], f, Portion::Tag),
+        _ => opening::hall(v[1], v[2], v[3], f),
     }
 }

@@ -2,7 +2,6 @@
 use crate::answer::sealed;
 use crate::answer::with_output;
 use crate::lent::made_board;
-use crate::lent::room_of;
 use crate::read::Frame;
 use board::Sent;
 use lines::Answer;
@@ -11,7 +10,7 @@ use lines::decimal;
 pub(crate) fn seal(size: u64, f: Frame) -> Answer {
     let o = f.octets;
     let mut out = [0xeeu8; 256];
-    let room = room_of(size, &out);
+    let room = lines::room_of(size as usize, &out);
     let sent = network::seal_frame(made_board(), text::front(&o, f.n), &mut out[..room]);
     left(sent, out, room)
 }
@@ -19,7 +18,7 @@ pub(crate) fn seal(size: u64, f: Frame) -> Answer {
 pub(crate) fn seal_aps(size: u64, partner: u64, identifier: u64, f: Frame) -> Answer {
     let o = f.octets;
     let mut out = [0xeeu8; 256];
-    let room = room_of(size, &out);
+    let room = lines::room_of(size as usize, &out);
     let sent = aps::seal_frame(
         made_board(),
         text::front(&o, f.n),

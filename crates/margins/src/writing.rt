@@ -2,7 +2,6 @@
 use crate::answer::with_output;
 use crate::answer::written;
 use crate::lent::made_board;
-use crate::lent::room_of;
 use crate::read::Frame;
 use commands::Command;
 use lines::Answer;
@@ -12,7 +11,7 @@ use lines::decimal;
 pub(crate) fn write(size: u64, ack: bool, c: Command, rest: Frame) -> Answer {
     let o = rest.octets;
     let mut out = [0xeeu8; 256];
-    let room = room_of(size, &out);
+    let room = lines::room_of(size as usize, &out);
     let wrote = commands::write_command(
         made_board(),
         ack,

@@ -76,21 +76,21 @@ module _ (z : Settings) (k : Key) (f : List ℕ) (s : Secured) where
 
   -- ---- 8: the sender's row is looked for once, and floor and row go by it
 
-  module _ (i : ℕ) (w : Lent) (below : s .counter ≡ top → ⊥) where
-    pub under-heard : (r : ℕ) → rowOf z (w .lists) i (s .sender) ≡ At r → openedHeard z k r f s w ≡ openedUnder z k i f s w
+  module _ (m i : ℕ) (w : Lent) (below : s .counter ≡ top → ⊥) where
+    pub under-heard : (r : ℕ) → rowOf m (w .lists) i (s .sender) ≡ At r → openedHeard z k r f s w ≡ openedUnder z m k i f s w
     unfolding openedHeard openedUnder floorOf rowFor
     under-heard r e = simp (ne-eqb _ _ below, e)
 
-    pub under-new : rowOf z (w .lists) i (s .sender) ≡ Absent
-        → admitted f s w (messageOf z k f s) (rowOf z (w .lists) i 0) ≡ openedUnder z k i f s w
+    pub under-new : rowOf m (w .lists) i (s .sender) ≡ Absent
+        → admitted f s w (messageOf z k f s) (rowOf m (w .lists) i 0) ≡ openedUnder z m k i f s w
     unfolding openedUnder floorOf rowFor
     under-new e = simp (ne-eqb _ _ below, e, le-ltb (s .counter) 0 (omega arith))
 
 -- the row that was found is one that the list has
-pub row-there : (z : Settings) (w : Lists) (i a r : ℕ) → rowFor z w i a ≡ At r → r < length (w .addrs)
+pub row-there : (m : ℕ) (w : Lists) (i a r : ℕ) → rowFor m w i a ≡ At r → r < length (w .addrs)
 unfolding rowFor
-row-there z w i a r e = go (rowOf z w i a) refl e
+row-there m w i a r e = go (rowOf m w i a) refl e
   where
-    go : (p : Place) → rowOf z w i a ≡ p → orFree z w i p ≡ At r → r < length (w .addrs)
-    go (At q) d e = row-place (w .addrs) (i * z .rows) (z .rows) a r (d ∙ e)
-    go Absent d e = row-place (w .addrs) (i * z .rows) (z .rows) 0 r e
+    go : (p : Place) → rowOf m w i a ≡ p → orFree m w i p ≡ At r → r < length (w .addrs)
+    go (At q) d e = row-place (w .addrs) (i * m) m a r (d ∙ e)
+    go Absent d e = row-place (w .addrs) (i * m) m 0 r e

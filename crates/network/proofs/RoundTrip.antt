@@ -26,7 +26,7 @@ use Rattle.board.specs.declared.Board.{Board}
 use Rattle.board.specs.declared.Place.{Place}
 use Rattle.board.specs.declared.Place.the-variants.{At}
 use Rattle.board.specs.Sending.{spent, Framed}
-use Rattle.board.specs.Rows.{listsFit}
+use Rattle.board.specs.Rows.{listsFit, half}
 use Rattle.board.specs.State.{slotAt}
 use Rattle.board.specs.Requests.{slotOf}
 use Rattle.seals.specs.Sealing.{Fair, sentOctets, sealedFrame}
@@ -39,12 +39,12 @@ use Rattle.board.specs.declared.Active.the-variants as actives
 -- a board c, lists and an output that have no cause to refuse the frame: 1; the key that is found for its number (6); its
 -- counter is not below the floor (8); and there is a row r for its sender (10). That it is not the top (7) the seal tells.
 pub record Opens (z : Settings) (key : Key) (n a q : ℕ) (c : Board) (w : Lent) (j r : ℕ) : Type 0 where
-  pub lists : listsFit z (w .lists) ≡ true
+  pub lists : listsFit (w .lists) ≡ true
   pub room : longest ≤ length (w .out)
   pub found : slotOf (c .slots) q ≡ At j
   pub same : theKey (slotAt (c .slots) j .key) ≡ key
-  pub fresh : floorOf z (w .lists) j a ≤ n
-  pub row : rowFor z (w .lists) j a ≡ At r
+  pub fresh : floorOf (half (w .lists)) (w .lists) j a ≤ n
+  pub row : rowFor (half (w .lists)) (w .lists) j a ≡ At r
 
 -- the plain frame f opened, and row r has the sender a and the floor behind counter n
 abbrev pub openedWith : List ℕ → ℕ → ℕ → Lent → ℕ → Opening
@@ -74,22 +74,22 @@ module _ (z : Settings) (fair : Fair z) (key : Key) (f : List ℕ) (h n a q : �
         leaving (opened x a (under identifier)) (record { lists = withRow (w .lists) r a (n + 1); out = onto y (w .out) }))
         plain-count (plain-again z key q p)
 
-    unsealed : openedUnder z key j g s w ≡ openedWith f n a w r
+    unsealed : openedUnder z (half (w .lists)) key j g s w ≡ openedWith f n a w r
     unfolding openedUnder
     unsealed =
         simp (ne-eqb _ _ below, le-ltb _ _ (t .fresh))
         (ap₂ (λ (x : Verdict) (y : Place). admitted g s w x y) (message-again z key q p fair) (t .row) ∙ opened-row)
 
-    keyed : openedKeyed z (c .slots) g s w (At j) ≡ openedWith f n a w r
+    keyed : openedKeyed z (half (w .lists)) (c .slots) g s w (At j) ≡ openedWith f n a w r
     unfolding openedKeyed
-    keyed = ap (λ (x : Key). openedUnder z x j g s w) (t .same) ∙ unsealed
+    keyed = ap (λ (x : Key). openedUnder z (half (w .lists)) x j g s w) (t .same) ∙ unsealed
 
     pub opens-again : openNetwork z c g w ≡ openedWith f n a w r
     unfolding openNetwork openedRead
     opens-again =
         simp (le-leb _ _ (t .room), t .lists, le-ltb _ _ g-length)
-        (ap (openedRead z (c .slots) g w) (read-again z key q p 0)
-        ∙ ap (openedKeyed z (c .slots) g s w) (t .found) ∙ keyed)
+        (ap (openedRead z (half (w .lists)) (c .slots) g w) (read-again z key q p 0)
+        ∙ ap (openedKeyed z (half (w .lists)) (c .slots) g s w) (t .found) ∙ keyed)
 
 -- ---- two boards
 

@@ -25,7 +25,7 @@ use Rattle.board.specs.declared.Board.{Board}
 use Rattle.board.specs.declared.Active.{Active}
 use Rattle.board.specs.declared.Place.{Place}
 use Rattle.board.specs.declared.Place.the-variants.{At, Absent}
-use Rattle.board.specs.Rows.{listsFit}
+use Rattle.board.specs.Rows.{listsFit, half}
 use Rattle.board.specs.State.{slotAt}
 use Rattle.board.specs.Requests.{slotOf}
 use Rattle.board.specs.Sending.{spent, Framed, framed}
@@ -41,8 +41,8 @@ module _ (z : Settings) (b : Board) (f : List ℕ) (w : Lent) where
   pub record Passed (s : Secured) (i r : ℕ) : Type 0 where
     pub read : reading z Network f 0 ≡ secured s
     pub found : slotOf (b .slots) (s .sequence) ≡ At i
-    pub least : floorOf z (w .lists) i (s .sender) ≤ s .counter
-    pub row : rowFor z (w .lists) i (s .sender) ≡ At r
+    pub least : floorOf (half (w .lists)) (w .lists) i (s .sender) ≤ s .counter
+    pub row : rowFor (half (w .lists)) (w .lists) i (s .sender) ≡ At r
 
   pub open-ways : (P : Opening → Type 0) → ((n : ℕ) → P (leaving (turnedDown n) w))
       → ((n : ℕ) (p : List ℕ) → reading z Network f 0 ≡ plain n
@@ -52,26 +52,26 @@ module _ (z : Settings) (b : Board) (f : List ℕ) (w : Lent) where
       → P (openNetwork z b f w)
   unfolding openNetwork openedRead openedKeyed openedUnder admitted
   open-ways P down unsecured passed =
-      choose P (not (both (leb longest (length (w .out))) (listsFit z (w .lists)))) _ _ (λ _. down 1) λ _.
+      choose P (not (both (leb longest (length (w .out))) (listsFit (w .lists)))) _ _ (λ _. down 1) λ _.
       choose P (ltb longest (length f)) _ _ (λ _. down 2) λ _.
       read (reading z Network f 0) refl
     where
       admit : (s : Secured) (i : ℕ) → reading z Network f 0 ≡ secured s → slotOf (b .slots) (s .sequence) ≡ At i
-          → floorOf z (w .lists) i (s .sender) ≤ s .counter → (v : Verdict) (p : Place) → rowFor z (w .lists) i (s .sender) ≡ p
+          → floorOf (half (w .lists)) (w .lists) i (s .sender) ≤ s .counter → (v : Verdict) (p : Place) → rowFor (half (w .lists)) (w .lists) i (s .sender) ≡ p
           → P (admitted f s w v p)
       admit s i e g h invalid p q = down 9
       admit s i e g h (valid d) Absent q = down 10
       admit s i e g h (valid d) (At r) q = passed s i r _ _ (record { read = e; found = g; least = h; row = q })
 
       keyed : (s : Secured) → reading z Network f 0 ≡ secured s → (p : Place) → slotOf (b .slots) (s .sequence) ≡ p
-          → P (openedKeyed z (b .slots) f s w p)
+          → P (openedKeyed z (half (w .lists)) (b .slots) f s w p)
       keyed s e Absent g = down 6
       keyed s e (At i) g =
           choose P (eqb (s .counter) top) _ _ (λ _. down 7) λ _.
-          choose P (ltb (s .counter) (floorOf z (w .lists) i (s .sender))) _ _ (λ _. down 8) λ h.
-          admit s i e g (ltb-false _ _ h) (messageOf z (theKey (slotAt (b .slots) i .key)) f s) (rowFor z (w .lists) i (s .sender)) refl
+          choose P (ltb (s .counter) (floorOf (half (w .lists)) (w .lists) i (s .sender))) _ _ (λ _. down 8) λ h.
+          admit s i e g (ltb-false _ _ h) (messageOf z (theKey (slotAt (b .slots) i .key)) f s) (rowFor (half (w .lists)) (w .lists) i (s .sender)) refl
 
-      read : (r : Reading) → reading z Network f 0 ≡ r → P (openedRead z (b .slots) f w r)
+      read : (r : Reading) → reading z Network f 0 ≡ r → P (openedRead z (half (w .lists)) (b .slots) f w r)
       read (refused n) e = down n
       read (plain n) e = unsecured n _ e
       read (secured s) e = keyed s e (slotOf (b .slots) (s .sequence)) refl

@@ -21,7 +21,7 @@ use Rattle.board.specs.declared.Board.{Board}
 use Rattle.board.specs.declared.Slot.{Slot}
 use Rattle.board.specs.declared.Place.{Place}
 use Rattle.board.specs.declared.Place.the-variants.{At, Absent}
-use Rattle.board.specs.Rows.{Lists, lists, listsFit, findRow}
+use Rattle.board.specs.Rows.{Lists, lists, listsFit, half, findRow}
 use Rattle.board.specs.State.{slotAt}
 use Rattle.board.specs.Requests.{slotOf}
 use Rattle.seals.specs.Sealing.{messageOf, plainFrame, looking}
@@ -42,27 +42,27 @@ pub record Opening : Type 0 where
 abbrev pub leaving : FrameTold → Lent → Opening
 leaving t w = record { answer = t; leaves = w }
 
--- ---- the rows of slot i
+-- ---- the rows of slot i, of which there are m
 
 -- the one that has address a
-abbrev pub rowOf : Settings → Lists → ℕ → ℕ → Place
-rowOf z w i a = findRow (w .addrs) (i * z .rows) (z .rows) a
+abbrev pub rowOf : ℕ → Lists → ℕ → ℕ → Place
+rowOf m w i a = findRow (w .addrs) (i * m) m a
 
 -- "A floor is the least counter still accepted": 0 where the sender was not heard
 abbrev pub floorAt : List ℕ → Place → ℕ
 floorAt fl (At r) = getD fl r 0
 floorAt fl Absent = 0
 
-unfoldable pub floorOf : Settings → Lists → ℕ → ℕ → ℕ
-floorOf z w i a = floorAt (w .floors) (rowOf z w i a)
+unfoldable pub floorOf : ℕ → Lists → ℕ → ℕ → ℕ
+floorOf m w i a = floorAt (w .floors) (rowOf m w i a)
 
 -- the sender's row; "a new sender takes the lowest free row of its slot"
-abbrev pub orFree : Settings → Lists → ℕ → Place → Place
-orFree z w i (At r) = At r
-orFree z w i Absent = rowOf z w i 0
+abbrev pub orFree : ℕ → Lists → ℕ → Place → Place
+orFree m w i (At r) = At r
+orFree m w i Absent = rowOf m w i 0
 
-unfoldable pub rowFor : Settings → Lists → ℕ → ℕ → Place
-rowFor z w i a = orFree z w i (rowOf z w i a)
+unfoldable pub rowFor : ℕ → Lists → ℕ → ℕ → Place
+rowFor m w i a = orFree m w i (rowOf m w i a)
 
 -- row r has address a and floor n
 abbrev pub withRow : Lists → ℕ → ℕ → ℕ → Lists
@@ -79,30 +79,30 @@ admitted f s w (valid m) (At r) =
     (record { lists = withRow (w .lists) r (s .sender) (s .counter + 1); out = onto (plainFrame Network f s m) (w .out) })
 
 -- 7 and 8, under the key of slot i
-unfoldable pub openedUnder : Settings → Key → ℕ → List ℕ → Secured → Lent → Opening
-openedUnder z k i f s w =
+unfoldable pub openedUnder : Settings → ℕ → Key → ℕ → List ℕ → Secured → Lent → Opening
+openedUnder z m k i f s w =
     if eqb (s .counter) top then leaving (turnedDown 7) w
-    else (if ltb (s .counter) (floorOf z (w .lists) i (s .sender)) then leaving (turnedDown 8) w
-    else admitted f s w (messageOf z k f s) (rowFor z (w .lists) i (s .sender)))
+    else (if ltb (s .counter) (floorOf m (w .lists) i (s .sender)) then leaving (turnedDown 8) w
+    else admitted f s w (messageOf z k f s) (rowFor m (w .lists) i (s .sender)))
 
 -- 6
-unfoldable pub openedKeyed : Settings → List Slot → List ℕ → Secured → Lent → Place → Opening
-openedKeyed z ss f s w (At i) = openedUnder z (theKey (slotAt ss i .key)) i f s w
-openedKeyed z ss f s w Absent = leaving (turnedDown 6) w
+unfoldable pub openedKeyed : Settings → ℕ → List Slot → List ℕ → Secured → Lent → Place → Opening
+openedKeyed z m ss f s w (At i) = openedUnder z m (theKey (slotAt ss i .key)) i f s w
+openedKeyed z m ss f s w Absent = leaving (turnedDown 6) w
 
 -- ---- "1, 2, then 3 for the control field, 4, 3 up to the security control, 5 for it, 3 for the rest and the tag, 5 for the
 -- sender" (reading), and what follows
 
-unfoldable pub openedRead : Settings → List Slot → List ℕ → Lent → Reading → Opening
-openedRead z ss f w (refused n) = leaving (turnedDown n) w
-openedRead z ss f w (plain n) = leaving (opened (length f) 0 clear) (record { lists = w .lists; out = onto f (w .out) })
-openedRead z ss f w (secured s) = openedKeyed z ss f s w (slotOf ss (s .sequence))
+unfoldable pub openedRead : Settings → ℕ → List Slot → List ℕ → Lent → Reading → Opening
+openedRead z m ss f w (refused n) = leaving (turnedDown n) w
+openedRead z m ss f w (plain n) = leaving (opened (length f) 0 clear) (record { lists = w .lists; out = onto f (w .out) })
+openedRead z m ss f w (secured s) = openedKeyed z m ss f s w (slotOf ss (s .sequence))
 
 unfoldable pub openNetwork : Settings → Board → List ℕ → Lent → Opening
 openNetwork z b f w =
-    if not (both (leb longest (length (w .out))) (listsFit z (w .lists))) then leaving (turnedDown 1) w
+    if not (both (leb longest (length (w .out))) (listsFit (w .lists))) then leaving (turnedDown 1) w
     else (if ltb longest (length f) then leaving (turnedDown 2) w
-    else openedRead z (b .slots) f w (reading z Network f 0))
+    else openedRead z (half (w .lists)) (b .slots) f w (reading z Network f 0))
 
 -- ---- the look: whether the tag of a frame that is not too long (2) fits the key that is found, whatever the counter
 

@@ -1,4 +1,5 @@
-// Opening, in document 01's order of judgement.
+// Opening, in document 01's order of judgement. How many rows a slot has, half of what the lists have, is
+// taken where these were judged, and handed down.
 use answers::Guard;
 use answers::Opened;
 use answers::Refusal;
@@ -10,7 +11,6 @@ use frames::Read;
 use frames::Secured;
 use seals::Unsealed;
 use settings::LONGEST;
-use settings::ROWS;
 use settings::TOP;
 ghost use mathlib.Core.Path.{_≡_};
 ghost use mathlib.Core.Bool.{true};
@@ -82,6 +82,7 @@ fn open_heard(
 
 // A sender that was not heard under slot i: its floor is 0, so no counter is stale.
 fn open_new(
+    rows: usize,
     key: [u8; 16],
     i: usize,
     f: &[u8],
@@ -92,15 +93,16 @@ fn open_new(
 ) -> Opened
     requires { ⌜ (sound ours (now f) s ≡ true) × ((longest ≤ length (now out)) × (s .counter < top)) ⌝ }
     requires { ⌜ (i < 2) × (length (now addrs) ≡ length (now floors)) ⌝ }
-    ensures { λ w. ⌜ leaving (toldOpened w) (lent (now (addrs .exit)) (now (floors .exit)) (now (out .exit))) ≡ admitted (now (f .entry)) s (lent (now (addrs .entry)) (now (floors .entry)) (now (out .entry))) (messageOf ours (theKey key) (now (f .entry)) s) (rowOf ours (lists (now (addrs .entry)) (now (floors .entry))) i 0) ⌝ }
+    ensures { λ w. ⌜ leaving (toldOpened w) (lent (now (addrs .exit)) (now (floors .exit)) (now (out .exit))) ≡ admitted (now (f .entry)) s (lent (now (addrs .entry)) (now (floors .entry)) (now (out .entry))) (messageOf ours (theKey key) (now (f .entry)) s) (rowOf rows (lists (now (addrs .entry)) (now (floors .entry))) i 0) ⌝ }
 {
-    match board::find_row(addrs, i * ROWS, ROWS, 0) {
+    match board::find_row(addrs, i * rows, rows, 0) {
         Place::At(r) => admit(key, r, f, s, addrs, floors, out),
         Place::Absent => turn_away(key, f, s),
     }
 }
 
 fn open_under(
+    rows: usize,
     key: [u8; 16],
     i: usize,
     f: &[u8],
@@ -111,18 +113,19 @@ fn open_under(
 ) -> Opened
     requires { ⌜ (sound ours (now f) s ≡ true) × (longest ≤ length (now out)) ⌝ }
     requires { ⌜ (i < 2) × (length (now addrs) ≡ length (now floors)) ⌝ }
-    ensures { λ w. ⌜ leaving (toldOpened w) (lent (now (addrs .exit)) (now (floors .exit)) (now (out .exit))) ≡ openedUnder ours (theKey key) i (now (f .entry)) s (lent (now (addrs .entry)) (now (floors .entry)) (now (out .entry))) ⌝ }
+    ensures { λ w. ⌜ leaving (toldOpened w) (lent (now (addrs .exit)) (now (floors .exit)) (now (out .exit))) ≡ openedUnder ours rows (theKey key) i (now (f .entry)) s (lent (now (addrs .entry)) (now (floors .entry)) (now (out .entry))) ⌝ }
 {
     if s.counter == TOP {
         return Opened::Refused(Refusal::Top);
     }
-    match board::find_row(addrs, i * ROWS, ROWS, s.sender) {
+    match board::find_row(addrs, i * rows, rows, s.sender) {
         Place::At(r) => open_heard(key, r, f, s, addrs, floors, out),
-        Place::Absent => open_new(key, i, f, s, addrs, floors, out),
+        Place::Absent => open_new(rows, key, i, f, s, addrs, floors, out),
     }
 }
 
 fn open_keyed(
+    rows: usize,
     slots: [Slot; 2],
     f: &[u8],
     s: Secured,
@@ -131,13 +134,13 @@ fn open_keyed(
     out: &mut [u8],
 ) -> Opened
     requires { ⌜ (sound ours (now f) s ≡ true) × ((longest ≤ length (now out)) × (length (now addrs) ≡ length (now floors))) ⌝ }
-    ensures { λ w. ⌜ leaving (toldOpened w) (lent (now (addrs .exit)) (now (floors .exit)) (now (out .exit))) ≡ openedKeyed ours slots (now (f .entry)) s (lent (now (addrs .entry)) (now (floors .entry)) (now (out .entry))) (slotOf slots (s .sequence)) ⌝ }
+    ensures { λ w. ⌜ leaving (toldOpened w) (lent (now (addrs .exit)) (now (floors .exit)) (now (out .exit))) ≡ openedKeyed ours rows slots (now (f .entry)) s (lent (now (addrs .entry)) (now (floors .entry)) (now (out .entry))) (slotOf slots (s .sequence)) ⌝ }
 {
     match board::slot_of(slots, s.sequence) {
         Place::At(i) => {
             let slot = slots[i];
             let key = slot.key;
-            open_under(key, i, f, s, addrs, floors, out)
+            open_under(rows, key, i, f, s, addrs, floors, out)
         }
         Place::Absent => Opened::Refused(Refusal::NoKey),
     }
@@ -160,6 +163,7 @@ pub fn open_frame(
     if !board::lists_fit(addrs, floors) {
         return Opened::Refused(Refusal::Room);
     }
+    let rows = addrs.len() / 2;
     if LONGEST < frame.len() {
         return Opened::Refused(Refusal::Long);
     }
@@ -171,7 +175,7 @@ pub fn open_frame(
         }
         Read::Secured(s) => {
             let slots = board.slots;
-            open_keyed(slots, frame, s, addrs, floors, out)
+            open_keyed(rows, slots, frame, s, addrs, floors, out)
         }
     }
 }

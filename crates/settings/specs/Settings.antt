@@ -24,19 +24,24 @@ apsAux = 13
 abbrev pub top : ℕ
 top = 4294967295
 
+-- Document 02 (iii): "Let the two lists have any equal, even length from 2 to 1,024"
+abbrev pub shortestList : ℕ
+shortestList = 2
+
+abbrev pub longestList : ℕ
+longestList = 1024
+
 -- ---- what may be set otherwise
 
 pub record Settings : Type 0 where
-  -- the rows of heard senders that each of the two slots has
-  pub rows : ℕ
   -- the security level that "it is replaced by" in the nonce and in the authenticated octets
   pub level : ℕ
   -- the octets of the tag, M
   pub tag : ℕ
 
--- "rows 0 to 31 for slot 0, rows 32 to 63 for slot 1"; "it is replaced by 5"; "the tag M is 4 octets"
+-- "it is replaced by 5"; "the tag M is 4 octets"
 abbrev pub ours : Settings
-ours = record { rows = 32; level = 5; tag = 4 }
+ours = record { level = 5; tag = 4 }
 
 -- 2: "to seal: over 98, over 91", which is what the auxiliary header and the tag leave of a longest frame
 abbrev pub longestPlain : Settings → ℕ

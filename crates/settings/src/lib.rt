@@ -22,10 +22,10 @@ pub const LONGEST_PLAIN: usize = LONGEST - NETWORK_AUX - TAG;
 
 pub const LONGEST_APS_PLAIN: usize = LONGEST_APS - APS_AUX - TAG;
 
-// The rows of heard senders that each of the two slots has, and those of a lent list.
-pub const ROWS: usize = 32;
+// The rows of a lent list of heard senders, at least and at most; half of them are each slot's.
+pub const SHORTEST_LIST: usize = 2;
 
-pub const LIST: usize = 2 * ROWS;
+pub const LONGEST_LIST: usize = 1024;
 
 // The counter that is neither sent nor accepted.
 pub const TOP: u32 = 4294967295;

@@ -9,8 +9,8 @@ use lines::Answer;
 pub struct Desk {
     pub ready: bool,
     pub board: Board,
-    pub addrs: [u64; 128],
-    pub floors: [u32; 128],
+    pub addrs: [u64; 1026],
+    pub floors: [u32; 1026],
     pub rows: usize,
     pub tops: usize,
 }
@@ -28,8 +28,8 @@ pub(crate) fn fresh_desk() -> Desk {
     Desk {
         ready: false,
         board: b,
-        addrs: [0u64; 128],
-        floors: [0u32; 128],
+        addrs: [0u64; 1026],
+        floors: [0u32; 1026],
         rows: 64,
         tops: 64,
     }
@@ -41,7 +41,7 @@ pub(crate) fn with_board(desk: Desk, b: Board) -> Desk {
     next
 }
 
-pub(crate) fn with_lists(desk: Desk, addrs: [u64; 128], floors: [u32; 128]) -> Desk {
+pub(crate) fn with_lists(desk: Desk, addrs: [u64; 1026], floors: [u32; 1026]) -> Desk {
     let mut next = desk;
     next.addrs = addrs;
     next.floors = floors;

@@ -1,7 +1,4 @@
 // Requests that are lent the lists, and how much of them is lent.
-ghost use mathlib.Core.Path.{_≡_};
-ghost use Prim.Native.Nat.{_≤_};
-ghost use lib.ListN.{length, take};
 use crate::answer::told;
 use crate::desk::Desk;
 use crate::desk::Reply;
@@ -33,15 +30,15 @@ fn started(b: Board, rows: usize, tops: usize) -> Desk {
     Desk {
         ready: true,
         board: b,
-        addrs: [0u64; 128],
-        floors: [0u32; 128],
+        addrs: [0u64; 1026],
+        floors: [0u32; 1026],
         rows,
         tops,
     }
 }
 
 pub(crate) fn lend(rows: u64, tops: u64, desk: Desk) -> Reply {
-    if rows > 128 || tops > 128 {
+    if rows > 1026 || tops > 1026 {
         return reply_bad(desk);
     }
     let mut next = desk;
@@ -53,8 +50,8 @@ pub(crate) fn lend(rows: u64, tops: u64, desk: Desk) -> Reply {
 pub(crate) fn network(slot: u64, number: u64, key: [u8; 16], desk: Desk) -> Reply {
     let mut addrs = desk.addrs;
     let mut floors = desk.floors;
-    let rows = addresses_of(desk.rows, &addrs);
-    let tops = floors_of(desk.tops, &floors);
+    let rows = lines::addresses_of(desk.rows, &addrs);
+    let tops = lines::floors_of(desk.tops, &floors);
     let b = desk.board;
     let done = board::install(
         b,
@@ -70,8 +67,8 @@ pub(crate) fn network(slot: u64, number: u64, key: [u8; 16], desk: Desk) -> Repl
 pub(crate) fn forget(slot: u64, sender: u64, desk: Desk) -> Reply {
     let mut addrs = desk.addrs;
     let mut floors = desk.floors;
-    let rows = addresses_of(desk.rows, &addrs);
-    let tops = floors_of(desk.tops, &floors);
+    let rows = lines::addresses_of(desk.rows, &addrs);
+    let tops = lines::floors_of(desk.tops, &floors);
     let outcome = board::forget(
         &mut addrs[..rows],
         &mut floors[..tops],
@@ -81,26 +78,5 @@ pub(crate) fn forget(slot: u64, sender: u64, desk: Desk) -> Reply {
     Reply {
         answer: told(outcome),
         desk: with_lists(desk, addrs, floors),
-    }
-}
-
-// As many rows as are lent. The two facts are what a part of the list asks for.
-fn addresses_of(lent: usize, addrs: &[u64]) -> usize
-    ensures { λ r. ⌜ (r ≤ length (now (addrs .entry))) × (r ≡ length (take r (now (addrs .entry)))) ⌝ }
-{
-    if addrs.len() < lent {
-        addrs.len()
-    } else {
-        lent
-    }
-}
-
-fn floors_of(lent: usize, floors: &[u32]) -> usize
-    ensures { λ r. ⌜ (r ≤ length (now (floors .entry))) × (r ≡ length (take r (now (floors .entry)))) ⌝ }
-{
-    if floors.len() < lent {
-        floors.len()
-    } else {
-        lent
     }
 }

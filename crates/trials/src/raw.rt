@@ -60,7 +60,7 @@ fn link_put(b: Board, i: usize, l: Link) -> Board {
 
 // The row is stored, whether it is lent or not.
 pub(crate) fn set_row(row: u64, sender: u64, floor: u64, desk: Desk) -> Reply {
-    if row > 127 {
+    if row > 1025 {
         return reply_bad(desk);
     }
     reply_done(row_put(desk, row as usize, sender, counter(floor)))
@@ -68,7 +68,7 @@ pub(crate) fn set_row(row: u64, sender: u64, floor: u64, desk: Desk) -> Reply {
 
 fn row_put(desk: Desk, r: usize, a: u64, floor: u32) -> Desk {
     let mut next = desk;
-    if r < 128 {
+    if r < 1026 {
         next.addrs[r] = a;
         next.floors[r] = floor;
     }

@@ -55,9 +55,9 @@ fn link(a: Answer, l: Link) -> Answer {
     decimal(octets, l.floor as u64)
 }
 
-pub(crate) fn rows(addrs: [u64; 128], floors: [u32; 128]) -> Answer {
+pub(crate) fn rows(addrs: [u64; 1026], floors: [u32; 1026]) -> Answer {
     let mut a = done();
-    for r in 0..128 {
+    for r in 0..1026 {
         a = row(a, r, addrs[r], floors[r]);
     }
     a

@@ -1,7 +1,4 @@
 // The requests: each reads its fields, calls one routine and tells its answer.
-ghost use mathlib.Core.Path.{_≡_};
-ghost use Prim.Native.Nat.{_≤_};
-ghost use lib.ListN.{length, take};
 use crate::answer::bad;
 use crate::answer::done;
 use crate::answer::refused;
@@ -106,7 +103,7 @@ fn called(
     let a = text::front(&ao, authenticated.n);
     let d = text::front(&o, data.n);
     let mut out = [0u8; 256];
-    let room = room_of(lent, &out);
+    let room = lines::room_of(lent, &out);
     let answer = if opening {
         cipher::unseal(m, key, nonce, a, d, &mut out[..room])
     } else {
@@ -143,11 +140,4 @@ fn hashed(h: Hashed) -> Answer {
         cipher::Answer::Made(_) => hex(done(), &block),
         cipher::Answer::Refused(f) => refused(f),
     }
-}
-
-// As many octets of out as are lent. The two facts are what a part of out asks for.
-fn room_of(lent: usize, out: &[u8]) -> usize
-    ensures { λ r. ⌜ (r ≤ length (now (out .entry))) × (r ≡ length (take r (now (out .entry)))) ⌝ }
-{
-    if out.len() < lent { out.len() } else { lent }
 }

@@ -4,14 +4,16 @@ use mathlib.Core.Path.{refl, sym, ap, _∙_}
 use native.Mathlib.Omega.{arith}
 use borrow.Author.Needs.{needs}
 use borrow.Author.Tests.{lt-ltb, le-ltb, not-true, not-false}
-use Rattle.settings.specs.Settings.{ours}
-use Rattle.board.specs.Rows.{lists}
+use Rattle.board.specs.Rows.{Lists, lists, half}
 use Rattle.board.specs.Requests.{changed, install}
 use Rattle.board.proofs.Leaves.{left-all}
 use Rattle.answers.specs.Numbers.{done}
-use Rattle.board.proofs.Found.{lists-long}
+use Rattle.board.proofs.Found.{lists-long, slot-start, slot-within}
 use Rattle.board.proofs.keys.install.Statement.{statement}
 use Rattle.board.proofs.keys.install.Tie as tie
+
+abbrev lent : tie.Start → Lists
+lent c = lists (c .args .addrs .now) (c .args .floors .now)
 
 lists-fit-requires : tie.Need-lists-fit-requires
 lists-fit-requires c κs = search needs
@@ -113,16 +115,20 @@ returns-4 c =
     (left-all (c .did .ensures) refl refl)
 
 mul-free-rows : tie.Need-mul-free-rows
-mul-free-rows c = search needs
+mul-free-rows c =
+    let else2 : tie.Else2 = search in
+    let start : tie.Start = search in
+    let low = slot-start (half (lent (search))) (start .args .slot) (omega (arith, else2 .if2 .left)) in
+    record { fits = omega (arith, low, start .good .1 .0 .0) }
 
 free-rows-requires : tie.Need-free-rows-requires
 free-rows-requires c κs =
+    let else2 : tie.Else2 = search in
     let else1 : tie.Else1 = search in
     let start : tie.Start = search in
-    let h = lists-long ours (lists (start .args .addrs .now) (start .args .floors .now))
-    (sym (else1 .before .lists-fit .ensures) ∙ not-false _ (else1 .if1 .left)) in
-    let else2 : tie.Else2 = search in
-    omega (arith, h .0, h .1, else2 .if2 .left)
+    let h = lists-long (lent (search)) (sym (else1 .before .lists-fit .ensures) ∙ not-false _ (else1 .if1 .left)) in
+    let inside = slot-within (half (lent (search))) (start .args .slot) (omega (arith, else2 .if2 .left)) in
+    (omega (arith, h .0, inside), omega (arith, h .1, inside))
 
 with-slot-requires : tie.Need-with-slot-requires
 with-slot-requires c κs = search needs

@@ -1,8 +1,12 @@
 -- Each refusal is the definition's test of the same place; the row that was found is zeroed in both lists.
 use mathlib.Core.Path.{sym, _∙_}
+use Prim.Native.Nat.{_/_}
+use native.Mathlib.Omega.{arith}
+use lib.ListN.{length}
 use borrow.Author.Needs.{needs}
 use borrow.Author.Tests.{eq-eqb, ne-eqb, lt-ltb, le-ltb, not-true, not-false}
 use Rattle.board.specs.Requests.{forget}
+use Rattle.board.proofs.Found.{slot-start}
 use Rattle.board.proofs.rows.forget.Statement.{statement}
 use Rattle.board.proofs.rows.forget.Tie as tie
 
@@ -45,7 +49,11 @@ returns-3 c =
     )
 
 mul-find-row : tie.Need-mul-find-row
-mul-find-row c = search needs
+mul-find-row c =
+    let else2 : tie.Else2 = search in
+    let start : tie.Start = search in
+    let low = slot-start (length (start .args .addrs .now) / 2) (start .args .slot) (omega (arith, else2 .if2 .left)) in
+    record { fits = omega (arith, low, start .good .0 .0) }
 
 find-row-requires : tie.Need-find-row-requires
 find-row-requires c κs = search needs

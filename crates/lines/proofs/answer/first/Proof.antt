@@ -2,6 +2,7 @@
 use Prim.Native.Nat.{ℕ}
 use lib.ListN.{length, replicate, length-replicate}
 use mathlib.Core.Path.{_≡_, refl, sym, ap, ap₂, _∙_}
+use Rattle.lines.specs.Answer.{room}
 use Rattle.lines.proofs.Written.{laid}
 use borrow.Author.Needs.{needs}
 use Rattle.lines.proofs.answer.first.Statement.{statement}
@@ -16,8 +17,8 @@ put-requires c κs = search needs
 returns : tie.Need-returns
 returns c =
     let start : tie.Start = search in
-    let e : length (replicate {A = ℕ} 8192 0) ≡ 8192 = length-replicate {A = ℕ} 8192 0 in
-    laid (replicate {A = ℕ} 8192 0) 0 (start .args .word .now) (c .before .put .ensures .0) (c .before .put .ensures .1) e
+    let e : length (replicate {A = ℕ} room 0) ≡ room = length-replicate {A = ℕ} room 0 in
+    laid (replicate {A = ℕ} room 0) 0 (start .args .word .now) (c .before .put .ensures .0) (c .before .put .ensures .1) e
 
 pub first-spec : {M : Type 1} → statement M
 first-spec = tie.close (tie.spec slice-aggregate-put put-requires returns)

@@ -1,44 +1,56 @@
--- The rows are counted up to 64.
+-- The rows are counted up to the last that is stored.
 use Prim.Native.Nat.{_≤_, _-_}
 use borrow.Author.Needs.{needs}
 use Rattle.margins.proofs.opening.changed_rows.Statement.{statement}
 use Rattle.margins.proofs.opening.changed_rows.Tie as tie
 
 abbrev Inv-loop : tie.InvT-loop
-Inv-loop senders tops addrs floors now₀ r₀ now r = r ≤ 64
+Inv-loop senders tops addrs floors now₀ r₀ now r = r ≤ 1026
 
 abbrev μ-loop : tie.MeasureT-loop
-μ-loop senders tops addrs floors now₀ r₀ now r = 64 - r
+μ-loop senders tops addrs floors now₀ r₀ now r = 1026 - r
 
 loop-holds : tie.Need-loop-holds Inv-loop μ-loop
 loop-holds c = search needs
 
-mul-t14 : tie.Need-mul-t14 Inv-loop μ-loop
-mul-t14 c = search needs
+mul-if1 : tie.Need-mul-if1 Inv-loop μ-loop
+mul-if1 c = search needs
 
-array-read-t17 : tie.Need-array-read-t17 Inv-loop μ-loop
-array-read-t17 c = search needs
+array-read-if1 : tie.Need-array-read-if1 Inv-loop μ-loop
+array-read-if1 c = search needs
 
-mul-t18 : tie.Need-mul-t18 Inv-loop μ-loop
-mul-t18 c = search needs
+mul-if1-2 : tie.Need-mul-if1-2 Inv-loop μ-loop
+mul-if1-2 c = search needs
 
-array-read-t21 : tie.Need-array-read-t21 Inv-loop μ-loop
-array-read-t21 c = search needs
+array-read-if1-2 : tie.Need-array-read-if1-2 Inv-loop μ-loop
+array-read-if1-2 c = search needs
 
-mul-t14-2 : tie.Need-mul-t14-2 Inv-loop μ-loop
-mul-t14-2 c = search needs
+mul-if2 : tie.Need-mul-if2 Inv-loop μ-loop
+mul-if2 c = search needs
 
-array-read-t17-2 : tie.Need-array-read-t17-2 Inv-loop μ-loop
-array-read-t17-2 c = search needs
+array-read-if2 : tie.Need-array-read-if2 Inv-loop μ-loop
+array-read-if2 c = search needs
 
-mul-t18-2 : tie.Need-mul-t18-2 Inv-loop μ-loop
-mul-t18-2 c = search needs
+mul-if2-2 : tie.Need-mul-if2-2 Inv-loop μ-loop
+mul-if2-2 c = search needs
 
-array-read-t21-2 : tie.Need-array-read-t21-2 Inv-loop μ-loop
-array-read-t21-2 c = search needs
+array-read-if2-2 : tie.Need-array-read-if2-2 Inv-loop μ-loop
+array-read-if2-2 c = search needs
 
-changed-row-requires : tie.Need-changed-row-requires Inv-loop μ-loop
-changed-row-requires c κs = search needs
+mul-row : tie.Need-mul-row Inv-loop μ-loop
+mul-row c = search needs
+
+array-read-row : tie.Need-array-read-row Inv-loop μ-loop
+array-read-row c = search needs
+
+mul-row-2 : tie.Need-mul-row-2 Inv-loop μ-loop
+mul-row-2 c = search needs
+
+array-read-row-2 : tie.Need-array-read-row-2 Inv-loop μ-loop
+array-read-row-2 c = search needs
+
+row-requires : tie.Need-row-requires Inv-loop μ-loop
+row-requires c κs = search needs
 
 add-r : tie.Need-add-r Inv-loop μ-loop
 add-r c = search needs
@@ -59,15 +71,19 @@ changed-rows-spec =
     Inv-loop
     μ-loop
     loop-holds
-    mul-t14
-    array-read-t17
-    mul-t18
-    array-read-t21
-    mul-t14-2
-    array-read-t17-2
-    mul-t18-2
-    array-read-t21-2
-    changed-row-requires
+    mul-if1
+    array-read-if1
+    mul-if1-2
+    array-read-if1-2
+    mul-if2
+    array-read-if2
+    mul-if2-2
+    array-read-if2-2
+    mul-row
+    array-read-row
+    mul-row-2
+    array-read-row-2
+    row-requires
     add-r
     loop-less
     loop-again

@@ -28,7 +28,7 @@ returns c = simp (lt-leb _ _ (c .if1 .taken))
 room : (c : tie.Else1) → let start : tie.Start = search in leb longest (length (start .args .out .now)) ≡ true
 room c = le-leb _ _ (c .if1 .left)
 
-fit : (c : tie.Else2) → let start : tie.Start = search in listsFit ours (lists (start .args .addrs .now) (start .args .floors .now)) ≡ true
+fit : (c : tie.Else2) → let start : tie.Start = search in listsFit (lists (start .args .addrs .now) (start .args .floors .now)) ≡ true
 fit c = sym (c .before .lists-fit .ensures) ∙ not-false _ (c .if2 .left)
 
 short : (c : tie.Else3) → let start : tie.Start = search in ltb longest (length (start .args .frame .now)) ≡ false
@@ -81,7 +81,7 @@ open-keyed-requires c κs =
     let else3 : tie.Else3 = search in
     let else1 : tie.Else1 = search in
     let start : tie.Start = search in
-    let long = lists-long ours _ (fit (search)) in (
+    let long = lists-long _ (fit (search)) in (
       read-sound ours (start .args .frame .now) _ (sym (after-read-frame .read-frame .ensures) ∙ ap toldRead (after-s .s .given .1))
           (else3 .if3 .left),
       (else1 .if1 .left, long .0 ∙ sym (long .1)),

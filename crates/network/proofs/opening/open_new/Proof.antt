@@ -4,12 +4,14 @@ use Prim.Native.Nat.{_<_}
 use native.Mathlib.Omega.{arith}
 use lib.ListN.{length}
 use borrow.Author.Needs.{needs}
-use Rattle.board.proofs.Found.{row-place}
+use Rattle.board.proofs.Found.{row-place, slot-start}
 use Rattle.network.proofs.opening.open_new.Statement.{statement}
 use Rattle.network.proofs.opening.open_new.Tie as tie
 
 mul-find-row : tie.Need-mul-find-row
-mul-find-row c = search needs
+mul-find-row c =
+    let start : tie.Start = search in
+    record { fits = omega (arith, slot-start (start .args .rows) (start .args .i) (start .pre .1 .0), start .fits .rows) }
 
 find-row-requires : tie.Need-find-row-requires
 find-row-requires c κs = search needs

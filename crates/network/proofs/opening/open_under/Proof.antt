@@ -7,7 +7,7 @@ use borrow.Author.Needs.{needs}
 use borrow.Author.Tests.{eq-eqb}
 use Rattle.settings.specs.Settings.{ours, top}
 use Rattle.octets.specs.Keys.{theKey}
-use Rattle.board.proofs.Found.{row-place}
+use Rattle.board.proofs.Found.{row-place, slot-start}
 use Rattle.network.specs.Opening.{lent, openedUnder}
 use Rattle.network.proofs.Admission.{under-heard, under-new}
 use Rattle.network.proofs.opening.open_under.Statement.{statement}
@@ -18,7 +18,9 @@ unfolding openedUnder
 returns c = simp (eq-eqb _ _ (c .if1 .taken))
 
 mul-find-row : tie.Need-mul-find-row
-mul-find-row c = search needs
+mul-find-row c =
+    let start : tie.Start = search in
+    record { fits = omega (arith, slot-start (start .args .rows) (start .args .i) (start .pre .1 .0), start .fits .rows) }
 
 find-row-requires : tie.Need-find-row-requires
 find-row-requires c κs = search needs
@@ -64,7 +66,7 @@ returns-2 c =
     let else1 : tie.Else1 = search in
     let start : tie.Start = search in
     let y = start .args in
-    after-open-heard .open-heard .ensures ∙ under-heard ours (theKey (y .key)) (y .f .now) (y .s) (y .i)
+    after-open-heard .open-heard .ensures ∙ under-heard ours (theKey (y .key)) (y .f .now) (y .s) (y .rows) (y .i)
     (lent (y .addrs .now) (y .floors .now) (y .out .now)) (else1 .if1 .left) _
     (sym (after-find-row .find-row .ensures) ∙ after-r .r .given .1)
 
@@ -85,7 +87,7 @@ returns-3 c =
     let else1 : tie.Else1 = search in
     let start : tie.Start = search in
     let y = start .args in
-    after-open-new .open-new .ensures ∙ under-new ours (theKey (y .key)) (y .f .now) (y .s) (y .i)
+    after-open-new .open-new .ensures ∙ under-new ours (theKey (y .key)) (y .f .now) (y .s) (y .rows) (y .i)
     (lent (y .addrs .now) (y .floors .now) (y .out .now)) (else1 .if1 .left)
     (sym (after-find-row .find-row .ensures) ∙ after-enum-told .enum-told .given .1)
 

@@ -1,14 +1,14 @@
--- The rows are counted up to 128.
+-- The rows are counted up to 1026.
 use Prim.Native.Nat.{_≤_, _-_}
 use borrow.Author.Needs.{needs}
 use Rattle.trials.proofs.show.rows.Statement.{statement}
 use Rattle.trials.proofs.show.rows.Tie as tie
 
 abbrev Inv-loop : tie.InvT-loop
-Inv-loop addrs floors a₀ r₀ a r = r ≤ 128
+Inv-loop addrs floors a₀ r₀ a r = r ≤ 1026
 
 abbrev μ-loop : tie.MeasureT-loop
-μ-loop addrs floors a₀ r₀ a r = 128 - r
+μ-loop addrs floors a₀ r₀ a r = 1026 - r
 
 done-requires : tie.Need-done-requires Inv-loop μ-loop
 done-requires c κs = search needs

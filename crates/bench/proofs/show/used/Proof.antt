@@ -1,13 +1,17 @@
+-- The rows are counted up to the end, which is within the stored ones.
 use Prim.Native.Nat.{_≤_, _-_}
 use borrow.Author.Needs.{needs}
-use Rattle.bench.proofs.show.rows.Statement.{statement}
-use Rattle.bench.proofs.show.rows.Tie as tie
+use Rattle.bench.proofs.show.used.Statement.{statement}
+use Rattle.bench.proofs.show.used.Tie as tie
 
 abbrev Inv-loop : tie.InvT-loop
-Inv-loop slot addrs floors a₀ r₀ a r = r ≤ 64
+Inv-loop from to addrs floors end a₀ r₀ a r = end ≤ 1024
 
 abbrev μ-loop : tie.MeasureT-loop
-μ-loop slot addrs floors a₀ r₀ a r = 64 - r
+μ-loop from to addrs floors end a₀ r₀ a r = end - r
+
+stored-requires : tie.Need-stored-requires Inv-loop μ-loop
+stored-requires c κs = search needs
 
 done-requires : tie.Need-done-requires Inv-loop μ-loop
 done-requires c κs = search needs
@@ -42,12 +46,13 @@ loop-again c = search needs
 returns : tie.Need-returns Inv-loop μ-loop
 returns c = search needs
 
-pub rows-spec : {M : Type 1} → statement M
-rows-spec =
+pub used-spec : {M : Type 1} → statement M
+used-spec =
     tie.close
     (tie.spec
     Inv-loop
     μ-loop
+    stored-requires
     done-requires
     loop-holds
     mul-row
