@@ -53,7 +53,8 @@ static int by_size(const void *a, const void *b) {
 }
 
 static void time_case(const struct measured *c) {
-    double ours[ROUNDS], theirs[ROUNDS], ratio[ROUNDS];
+    static double our_last, their_last; /* of the case before */
+    double ours[ROUNDS], theirs[ROUNDS], ratio[ROUNDS], our_step, their_step;
     size_t n = 1; /* calls of a batch, a millisecond or more */
     while (n < 1u << 24 && batch(c->rattle, n) * n < 1e6) n *= 2;
     for (int r = 0; r < ROUNDS; r++) {
@@ -66,6 +67,11 @@ static void time_case(const struct measured *c) {
     qsort(theirs, ROUNDS, sizeof *theirs, by_size);
     qsort(ratio, ROUNDS, sizeof *ratio, by_size);
     printf("%-16s %9.0f %9.0f %7.2f %7.2f\n", c->name, ours[0], theirs[0], ours[0] / theirs[0], ratio[ROUNDS / 2]);
+    if (c->steps) {
+        our_step = (ours[0] - our_last) / c->steps, their_step = (theirs[0] - their_last) / c->steps;
+        printf("  each of %-6u %9.3f %9.3f %7.2f\n", c->steps, our_step, their_step, our_step / their_step);
+    }
+    our_last = ours[0], their_last = theirs[0];
 }
 
 static void time_all(const struct measured *cases, size_t n) {
@@ -108,8 +114,10 @@ static size_t touched(side *f) {
     return most;
 }
 
+size_t deepest;
+
 static int stack_all(const struct measured *cases, size_t n, const char *bar) {
-    size_t base, most = 0, largest = 0;
+    size_t base, largest = 0;
     stack = mmap(0, STACK, PROT_READ | PROT_WRITE, MAP_PRIVATE | MAP_ANONYMOUS, -1, 0);
     if (stack == MAP_FAILED) {
         puts("no memory for a stack");
@@ -123,11 +131,11 @@ static int stack_all(const struct measured *cases, size_t n, const char *bar) {
         printf("%-16s %9zu", cases[i].name, ours);
         if (cases[i].reference) printf(" %9zu", touched(cases[i].reference) - base);
         putchar('\n');
-        if (ours > most) most = ours, largest = i;
+        if (ours > deepest) deepest = ours, largest = i;
     }
     if (bar)
-        printf("The largest, %s with %zu octets, is %s %s.\n", cases[largest].name, most,
-               most <= strtoul(bar, 0, 10) ? "within" : "OVER", bar);
+        printf("The largest, %s with %zu octets, is %s %s.\n", cases[largest].name, deepest,
+               deepest <= strtoul(bar, 0, 10) ? "within" : "OVER", bar);
     return 0;
 }
 
@@ -153,7 +161,8 @@ int measure(int argc, char **argv, const struct measured *cases, size_t n) {
         }
     if (!strcmp(mode, "time")) time_all(cases, n);
     else if (!strcmp(mode, "stack")) return stack_all(cases, n, argc > 2 ? argv[2] : 0);
-    else if (!strcmp(mode, "names")) for (size_t i = 0; i < n; i++) printf("%s %s\n", cases[i].name, cases[i].beside);
+    else if (!strcmp(mode, "names"))
+        for (size_t i = 0; i < n; i++) printf("%s %s %u\n", cases[i].name, cases[i].beside, cases[i].steps);
     else if (!strcmp(mode, "count")) {
         marked(nothing);
         for (size_t i = 0; i < n; i++) {

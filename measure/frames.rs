@@ -8,7 +8,7 @@ const LONGEST: usize = 116;
 const LONGEST_PLAIN: usize = LONGEST - AUXILIARY - TAG;
 const AUXILIARY: usize = 14;
 const TAG: usize = 4;
-const ROWS: usize = 32;
+const LONGEST_LIST: usize = 1024;
 const TOP: u32 = u32::MAX;
 
 // Of the security control (6.1) the level; and the control of a network frame (6.3), as sent and as worked with.
@@ -181,6 +181,20 @@ fn seal_frame<C: Cipher>(
 
 // ---- opening (7.2)
 
+// (2.3) How many rows of these lists a slot has.
+fn rows_of_slot(addresses: &[u64], floors: &[u32]) -> Result<usize, Refusal> {
+    let rows = addresses.len();
+    if floors.len() != rows || rows % 2 != 0 || !(2..=LONGEST_LIST).contains(&rows) {
+        return Err(Refusal::Room);
+    }
+    Ok(rows / 2)
+}
+
+// (2.4) Among the rows of a slot.
+fn row_of(addresses: &[u64], address: u64) -> Option<usize> {
+    addresses.iter().position(|&a| a == address)
+}
+
 fn open_frame<C: Cipher>(
     board: &Board,
     frame: &[u8],
@@ -188,9 +202,10 @@ fn open_frame<C: Cipher>(
     floors: &mut [u32],
     out: &mut [u8],
 ) -> Result<Opened, Refusal> {
-    if out.len() < LONGEST || addresses.len() != 2 * ROWS || floors.len() != 2 * ROWS {
+    if out.len() < LONGEST {
         return Err(Refusal::Room);
     }
+    let rows = rows_of_slot(addresses, floors)?;
     if frame.len() > LONGEST {
         return Err(Refusal::Long);
     }
@@ -211,10 +226,9 @@ fn open_frame<C: Cipher>(
     if auxiliary.counter == TOP {
         return Err(Refusal::Top);
     }
-    let addresses = &mut addresses[slot * ROWS..][..ROWS];
-    let floors = &mut floors[slot * ROWS..][..ROWS];
-    let row_of = |address: u64| addresses.iter().position(|&a| a == address);
-    let heard = row_of(auxiliary.sender);
+    let addresses = &mut addresses[slot * rows..][..rows];
+    let floors = &mut floors[slot * rows..][..rows];
+    let heard = row_of(addresses, auxiliary.sender);
     if heard.map_or(false, |row| auxiliary.counter < floors[row]) {
         return Err(Refusal::Stale);
     }
@@ -226,7 +240,7 @@ fn open_frame<C: Cipher>(
     authenticated[header.length] = auxiliary.control;
     let nonce = auxiliary.nonce();
     let unseal = |out: &mut [u8]| open::<C>(TAG, &key.octets, &nonce, authenticated, sealed, out);
-    match heard.or_else(|| row_of(0)) {
+    match heard.or_else(|| row_of(addresses, 0)) {
         Some(row) => {
             let made = unseal(&mut out[header.length..])?;
             out[..header.length].copy_from_slice(&frame[..header.length]);
@@ -271,6 +285,19 @@ pub extern "C" fn rust_board(
     }))
 }
 
+// The lowest of the n rows from place `from` on that has the address, or -1.
+#[no_mangle]
+pub unsafe extern "C" fn rust_find_row(
+    addresses: *const u64,
+    rows: usize,
+    from: usize,
+    n: usize,
+    address: u64,
+) -> i64 {
+    row_of(&from_raw_parts(addresses, rows)[from..][..n], address)
+        .map_or(-1, |row| (from + row) as i64)
+}
+
 // Protection none is -1.
 #[repr(C)]
 pub struct Told {
@@ -302,8 +329,9 @@ macro_rules! export {
             frame: *const u8,
             length: usize,
             addresses: *mut u64,
-            floors: *mut u32,
             rows: usize,
+            floors: *mut u32,
+            floor_rows: usize,
             out: *mut u8,
             room: usize,
             told: &mut Told,
@@ -312,7 +340,7 @@ macro_rules! export {
                 board,
                 from_raw_parts(frame, length),
                 from_raw_parts_mut(addresses, rows),
-                from_raw_parts_mut(floors, rows),
+                from_raw_parts_mut(floors, floor_rows),
                 from_raw_parts_mut(out, room),
             );
             if let Ok(opened) = &opened {

@@ -22,6 +22,7 @@ struct hashed { struct answer answer; u8 octets[16]; };
 struct slot { u8 present, sequence, key[16]; };
 struct link { u8 present; uint64_t partner; u8 key[16]; uint32_t floor; };
 struct active { u8 is_slot; size_t slot; };
+struct place { u8 absent; size_t at; };
 struct board {
     uint64_t own;
     uint32_t outgoing;
@@ -48,6 +49,7 @@ void board__keys__switch(struct after *, const struct board *, u8 sequence);
 void board__partners__add_link(struct after *, const struct board *, uint64_t partner, const u8 *key);
 void board__partners__remove_link(struct after *, const struct board *, uint64_t partner);
 void board__rows__forget(struct outcome *, lent addresses, lent floors, size_t slot, uint64_t sender);
+void board__rows__find_row(struct place *, lent addresses, size_t from, size_t n, uint64_t address);
 
 /* ---- network, aps */
 typedef void seal_routine(struct sent *, const struct board *, lent frame, lent out);

@@ -1,5 +1,6 @@
 #!/bin/sh
-# Prints how fast sealing and opening are beside Rust, and what the board's calls take of the stack:
+# Prints how fast sealing and opening are beside Rust, what the board's calls take of the stack, and what memory a board asks
+# for:
 #
 #     sh measure/run.sh [REVISION]
 #
@@ -109,14 +110,20 @@ count() { # HARNESS: instructions of its calls
     while [ -f "$work/$1.callgrind.$part" ]; do
         sed -n 's/^totals: //p' "$work/$1.callgrind.$part"
         part=$((part + 2))
-    done | awk 'NR == FNR { name[NR] = $1; beside[NR] = $2; next }
+    done | awk 'NR == FNR { name[NR] = $1; beside[NR] = $2; steps[NR] = $3; next }
         FNR == 1 { base = $1; next }
         FNR % 2 == 0 { ours = $1 - base; next }
         {
             i = (FNR - 1) / 2
+            theirs = $1 - base
             if (beside[i] != beside[i - 1])
                 printf "%-16s %9s %9s %7s   instructions of a call with its callees\n", "count", "now", beside[i], "ratio"
-            printf "%-16s %9d %9d %7.2f\n", name[i], ours, $1 - base, ours / ($1 - base)
+            printf "%-16s %9d %9d %7.2f\n", name[i], ours, theirs, ours / theirs
+            if (steps[i])
+                printf "  each of %-6d %9.3f %9.3f %7.2f\n", steps[i], (ours - our_last) / steps[i],
+                    (theirs - their_last) / steps[i], (ours - our_last) / (theirs - their_last)
+            our_last = ours
+            their_last = theirs
         }' "$work/$1.names" -
 }
 if command -v valgrind >/dev/null && echo '#include <valgrind/callgrind.h>' | gcc -E - >/dev/null 2>&1; then
@@ -140,7 +147,7 @@ calls='board::state::make board::keys::install board::keys::switch board::partne
     network::sealing::seal_frame network::looking::look_frame aps::opening::open_frame aps::sealing::seal_frame
     aps::looking::look_frame router::routing::route router::routing::portion_of'
 module now vectors '' 'cipher::seal cipher::unseal cipher::keyed_hash'
-module now small '' "$calls"
+module now small '' "$calls board::rows::find_row"
 module now bench '' "$calls"
 [ -z "$revision" ] || module before small before__ "$calls"
 rustc --edition 2021 -C opt-level=3 -C panic=abort -C codegen-units=1 -C target-cpu=$theirs --crate-type staticlib \
@@ -154,7 +161,9 @@ harness stack.c calls-bench "$work/now/bench.o"
 echo "All for $machine ($theirs). Columns: now is the Rattle of this tree${revision:+, before that of $1};"
 echo "rust_dbl is Rust that doubles and adds octets, rust_wrd words, and rust_tab the ordinary table program in Rust."
 echo
-echo "Whole network frames, 98 octets plain and 116 secured"
+echo "Whole network frames, 98 octets plain and 116 secured. The sender's row is 16 of 32, with lists of 1,024 rows the one"
+echo "that the name says, of a sender heard before or new; what one of 511 rows costs stands below the second of these."
+echo "At the end the search for a row alone, the last of 512, beside Rust's."
 speed frames
 echo
 echo "The cipher alone, 22 octets authenticated and 90 of payload"

@@ -1,14 +1,17 @@
 /* What each of the board's calls takes of the stack, at full frames: sealing and opening at both layers (APS under key
    identifier 3, with its keyed hash), looking, the requests that change keys, a command written and read, a tunnel
-   routed. */
+   routed; with the longest lists, in which 511 others stand before the sender. And the memory that a board with such lists
+   asks for. */
 #define _GNU_SOURCE
 #include "cases.h"
 #include "rattle.h"
+#include <stdio.h>
 #include <string.h>
 
 /* ---- what is lent. Zeros are a Transport-Key of type 1, no protection, and of a tunnel's portions the inner frame. */
 #define OWN 0x1122334455667788ull
-enum { NETWORK = 98, NETWORK_SEALED = 116, APS = 91, APS_SEALED = 108, COMMAND = 37, TUNNEL = 108, ROWS = 64 };
+enum { NETWORK = 98, NETWORK_SEALED = 116, APS = 91, APS_SEALED = 108, COMMAND = 37, TUNNEL = 108, ROWS = 1024 };
+enum { LAST = ROWS / 2 - 1, OTHER_LAST = ROWS - 1 }; /* the rows of the sender in slot 0, and of sender 6 in slot 1 */
 static const u8 key[16] = "0123456789abcdef", zeros[256];
 static union {
     struct outcome outcome;
@@ -28,8 +31,10 @@ static struct slice a = { addresses, ROWS }, f = { floors, ROWS }, o = { out, si
 
 /* ---- the calls */
 #define DONE(CALLED) (CALLED, 0)
-CALL(open_network, (floors[0] = 0, /* what the call before has raised */
+CALL(open_network, (addresses[LAST] = floors[LAST] = 0, /* the row that the call before has taken */
                     DONE(network__opening__open_frame(&answer.opened, &board, SLICE(sealed, NETWORK_SEALED), &a, &f, &o))))
+CALL(open_full, (addresses[LAST] = 7, /* so that there is no row for the sender */
+                 DONE(network__opening__open_frame(&answer.opened, &board, SLICE(sealed, NETWORK_SEALED), &a, &f, &o))))
 CALL(open_aps, DONE(aps__opening__open_frame(&answer.received, &board, SLICE(aps_sealed, APS_SEALED), 0, &o)))
 CALL(seal_network, DONE(network__sealing__seal_frame(&answer.sent, &board, SLICE(plain, NETWORK), &o)))
 CALL(seal_aps, DONE(aps__sealing__seal_frame(&answer.sent, &board, SLICE(aps, APS), OWN, 3, &o)))
@@ -45,7 +50,7 @@ CALL(read_command, DONE(commands__reader__read_command(answer.octets, SLICE(writ
 CALL(route, DONE(router__routing__route(answer.octets, SLICE(tunnel, TUNNEL), zeros)))
 CALL(portion, DONE(router__routing__portion_of(&handed, SLICE(tunnel, TUNNEL), zeros, zeros)))
 CALL(make, DONE(board__state__make(&answer.after, OWN)))
-CALL(forget, DONE(board__rows__forget(&answer.outcome, &a, &f, 1, 6)))
+CALL(forget, (addresses[OTHER_LAST] = 6, DONE(board__rows__forget(&answer.outcome, &a, &f, 1, 6))))
 
 static void keep(void) {
     must(!answer.after.answer.refused && answer.after.board.own == OWN, "the board");
@@ -57,6 +62,13 @@ static void setup(void) {
     board__keys__install(&answer.after, &board, &a, &f, 0, 5, key); keep();
     board__keys__switch(&answer.after, &board, 5); keep();
     board__partners__add_link(&answer.after, &board, OWN, key); keep();
+    for (int r = 0; r < ROWS; r++) addresses[r] = 1000 + r, floors[r] = 1;
+    addresses[LAST] = floors[LAST] = 0;
+    install_rattle();
+    for (int r = 0; r < ROWS; r++) must(!addresses[r] == (r >= LAST) && !floors[r] == (r >= LAST), "what installing frees");
+    for (int r = LAST + 1; r < ROWS; r++) addresses[r] = 1000 + r;
+    forget_rattle();
+    must(!answer.outcome.refused && !addresses[OTHER_LAST] && addresses[OTHER_LAST - 1], "what forgetting frees");
     plain[0] = 8;
     for (int i = 2; i < NETWORK; i++) plain[i] = i;
     for (int i = 1; i < APS; i++) aps[i] = i;
@@ -69,11 +81,39 @@ static void setup(void) {
     portion_rattle();
     must(handed.at == tunnel + 11 && handed.length == TUNNEL - 11, "the inner frame");
     memset(out, 0xee, sizeof out); open_network_rattle();
-    must(!memcmp(out, plain, NETWORK), "the network frame");
+    must(!memcmp(out, plain, NETWORK) && addresses[LAST] == OWN && floors[LAST] == 1, "the network frame");
     memset(out, 0xee, sizeof out); open_aps_rattle();
     must(!memcmp(out, aps, APS), "the APS frame");
+    open_full_rattle();
+    must(answer.opened.answer.refused && answer.opened.answer.refusal == 9, "the tenth refusal, of full lists");
 }
 
-MEASURED(setup(), ALONE(open_network), ALONE(open_aps), ALONE(seal_network), ALONE(seal_aps), ALONE(look_network),
-         ALONE(look_aps), ALONE(add_link), ALONE(write_command), ALONE(install), ALONE(remove_link), ALONE(switch_key),
-         ALONE(read_command), ALONE(route), ALONE(portion), ALONE(make), ALONE(forget))
+/* ---- the memory: all that a caller keeps for the call with the deepest stack. The lists stay, whatever the call; the code
+   has no variables of its own. */
+static void sum(const char *what, size_t octets, const char *says) { printf("%-16s %9zu%s\n", what, octets, says); }
+static const char *within(size_t octets) { return octets < 16384 ? "   under 16384" : "   NOT UNDER 16384"; }
+static void memory(void) {
+    size_t lists = sizeof addresses + sizeof floors, all = lists + sizeof board + sizeof sealed + sizeof out + deepest;
+    printf("%-16s %9s   octets of a board with %d rows\n", "memory", "now", ROWS);
+    sum("lists", lists, "");
+    sum("state", sizeof board, "");
+    sum("frame", sizeof sealed, "");
+    sum("output", sizeof out, "");
+    sum("deepest stack", deepest, "");
+    sum("together", all, within(all));
+    sum("answer", sizeof answer.received, "   the largest, with the state that is handed back");
+    sum("with it", all + sizeof answer.received, within(all + sizeof answer.received));
+}
+
+static const struct measured calls[] = {
+    ALONE(open_network), ALONE(open_full), ALONE(open_aps), ALONE(seal_network), ALONE(seal_aps), ALONE(look_network),
+    ALONE(look_aps), ALONE(add_link), ALONE(write_command), ALONE(install), ALONE(remove_link), ALONE(switch_key),
+    ALONE(read_command), ALONE(route), ALONE(portion), ALONE(make), ALONE(forget),
+};
+int main(int argc, char **argv) {
+    int code;
+    setup();
+    code = measure(argc, argv, calls, sizeof calls / sizeof *calls);
+    if (deepest) memory();
+    return code;
+}
