@@ -1,23 +1,20 @@
 -- Laws of the first place that passes a test: a turn of the loop that looks for it, and what an answer tells.
 -- Assumes nothing.
-use mathlib.Core.Path.{_≡_, refl, ap, _∙_}
+use mathlib.Core.Path.{_≡_, refl, ap}
 use mathlib.Core.Logic.{⊎-elim}
 use mathlib.Core.Bool.{Bool, true, false, not}
 use mathlib.Core.List.{List}
-use Prim.Native.Nat.{ℕ, zero, suc, _+_, _-_, _<_, _≤_, _*_, _/_, _%_, min}
+use Prim.Native.Nat.{ℕ, zero, suc, _+_, _-_, _<_, _≤_, min}
 use native.Mathlib.Nat.{eq-or-lt-of-le}
 use native.Mathlib.Omega.{arith}
-use lib.Dec.{eqb, leb}
+use lib.Dec.{eqb}
 use lib.ListN.{length, getD}
-use borrow.Author.Tests.{eqb-true}
-use Rattle.octets.specs.Choice.{if_then_else_, both}
-use Rattle.octets.proofs.Choices.{both-parts}
-use Rattle.settings.specs.Settings.{shortestList, longestList}
+use Rattle.octets.specs.Choice.{if_then_else_}
 use Rattle.board.specs.declared.Place.the-variants.{At, Absent}
 use Rattle.board.specs.Places.{firstAt}
 use Rattle.board.specs.declared.Slot.{Slot}
 use Rattle.board.specs.declared.Link.{Link}
-use Rattle.board.specs.Rows.{Lists, findRow, legal, listsFit, half}
+use Rattle.board.specs.Rows.{findRow}
 use Rattle.board.specs.State.{slotAt, linkAt, carries, pairs}
 use Rattle.board.specs.Requests.{slotOf, linkOf, freeLink}
 
@@ -108,31 +105,3 @@ link-place ls a i e = first-found (λ k. pairs (linkAt ls k) a) 8 0 i e .high
 pub free-place : (ls : List Link) (i : ℕ) → freeLink ls ≡ At i → i < 8
 unfolding freeLink
 free-place ls i e = first-found (λ k. not (linkAt ls k .present)) 8 0 i e .high
-
--- a legal length is twice its half
-pub legal-twice : (n : ℕ) → legal n ≡ true → n ≡ 2 * (n / 2)
-unfolding legal
-legal-twice n e =
-    let p = both-parts (leb shortestList n) _ e in
-    let q = both-parts (leb n longestList) _ (p .1) in
-    let r : n % 2 ≡ 0 = eqb-true _ _ (q .1) in
-    omega arith
-
--- lists that fit have the rows of two slots
-pub lists-long : (w : Lists) → listsFit w ≡ true → (length (w .addrs) ≡ 2 * half w) × (length (w .floors) ≡ 2 * half w)
-unfolding listsFit
-lists-long w e =
-    let p = both-parts (legal (length (w .addrs))) _ e in
-    let a = legal-twice (length (w .addrs)) (p .0) in
-    (a, eqb-true _ _ (p .1) ∙ a)
-
--- where the rows of a slot start, and that they are rows of the list
-pub slot-start : (m i : ℕ) → i < 2 → i * m ≤ m
-slot-start m zero a = omega arith
-slot-start m (suc zero) a = omega arith
-slot-start m (suc (suc i)) a = absurd (omega arith)
-
-pub slot-within : (m i : ℕ) → i < 2 → i * m + m ≤ 2 * m
-slot-within m zero a = omega arith
-slot-within m (suc zero) a = omega arith
-slot-within m (suc (suc i)) a = absurd (omega arith)

@@ -1,4 +1,5 @@
 pub mod Found
+pub mod Halves
 pub mod Cleared
 pub mod Leaves
 pub mod Untouched

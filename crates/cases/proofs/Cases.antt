@@ -33,7 +33,8 @@ use Rattle.board.specs.Places.{firstAt}
 use Rattle.board.specs.Rows.{Lists, lists, listsFit, half, findRow}
 use Rattle.board.specs.State.{linkAt, pairs}
 use Rattle.board.specs.Requests.{linkOf}
-use Rattle.board.proofs.Found.{FoundAt, first-found, first-none, row-place, lists-long}
+use Rattle.board.proofs.Found.{FoundAt, first-found, first-none, row-place}
+use Rattle.board.proofs.Halves.{lists-long}
 use Rattle.seals.proofs.Opened.{message-length, sound-tells}
 use Rattle.seals.proofs.Fairly.{ours-fair}
 use Rattle.network.specs.Opening.{Lent, floorAt, floorOf, orFree, rowFor, admitted, openedUnder}

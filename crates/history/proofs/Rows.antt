@@ -16,7 +16,8 @@ use Rattle.history.proofs.Counters.{bound, member, Distinct, no-one}
 use Rattle.board.specs.declared.Place.{Place}
 use Rattle.board.specs.declared.Place.the-variants.{At, Absent}
 use Rattle.board.specs.Places.{firstAt}
-use Rattle.board.proofs.Found.{first-found, slot-within}
+use Rattle.board.proofs.Found.{first-found}
+use Rattle.board.proofs.Halves.{slot-within}
 use Rattle.network.specs.Opening.{floorAt}
 
 -- ---- the rows of a slot

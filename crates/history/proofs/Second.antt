@@ -44,7 +44,8 @@ use Rattle.board.specs.Rows.{legal, listsFit, half}
 use Rattle.board.specs.State.{slotAt, linkAt}
 use Rattle.board.specs.Sending.{Framed}
 use Rattle.board.specs.Requests.{slotOf, linkOf}
-use Rattle.board.proofs.Found.{slot-place, legal-twice}
+use Rattle.board.proofs.Found.{slot-place}
+use Rattle.board.proofs.Halves.{legal-twice}
 use Rattle.seals.specs.Sealing.{messageOf, isValid, genuine}
 use Rattle.network.specs.Opening.{Lent, floorAt, floorOf, rowFor}
 use Rattle.aps.specs.Opening.{keyNamed}

@@ -18,7 +18,8 @@ use Rattle.history.proofs.Rows.{In, slot-apart, rowIs, inUse, placeOf, 
 use Rattle.board.specs.declared.Place.{Place}
 use Rattle.board.specs.declared.Place.the-variants.{At, Absent}
 use Rattle.board.specs.Rows.{lists, findRow, freed}
-use Rattle.board.proofs.Found.{first-found, first-none, rows-there, slot-within}
+use Rattle.board.proofs.Found.{first-found, first-none, rows-there}
+use Rattle.board.proofs.Halves.{slot-within}
 use Rattle.board.proofs.Cleared.{freed-length}
 use Rattle.network.specs.Opening.{floorAt, orFree, rowFor}
 

@@ -39,7 +39,8 @@ use Rattle.board.specs.Rows.{lists, legal, listsFit, half, findRow}
 use Rattle.board.specs.State.{slotAt, linkAt, carries, pairs, noLink, fresh, withSlot, withLink}
 use Rattle.board.specs.Sending.{Framed, spent}
 use Rattle.board.specs.Requests.{Left, Changed, Freed, slotOf, linkOf, freeLink, holds, added, make}
-use Rattle.board.proofs.Found.{slot-place, legal-twice}
+use Rattle.board.proofs.Found.{slot-place}
+use Rattle.board.proofs.Halves.{legal-twice}
 use Rattle.network.specs.Opening.{floorAt, floorOf, rowFor}
 use Rattle.aps.specs.Opening.{withFloor}
 use Rattle.commands.specs.declared.Command.{Command}

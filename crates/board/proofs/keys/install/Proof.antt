@@ -8,7 +8,7 @@ use Rattle.board.specs.Rows.{Lists, lists, half}
 use Rattle.board.specs.Requests.{changed, install}
 use Rattle.board.proofs.Leaves.{left-all}
 use Rattle.answers.specs.Numbers.{done}
-use Rattle.board.proofs.Found.{lists-long, slot-start, slot-within}
+use Rattle.board.proofs.Halves.{lists-long, slot-start, slot-within}
 use Rattle.board.proofs.keys.install.Statement.{statement}
 use Rattle.board.proofs.keys.install.Tie as tie
 

@@ -6,7 +6,7 @@ use lib.ListN.{length}
 use borrow.Author.Needs.{needs}
 use borrow.Author.Tests.{eq-eqb, ne-eqb, lt-ltb, le-ltb, not-true, not-false}
 use Rattle.board.specs.Requests.{forget}
-use Rattle.board.proofs.Found.{slot-start}
+use Rattle.board.proofs.Halves.{slot-start}
 use Rattle.board.proofs.rows.forget.Statement.{statement}
 use Rattle.board.proofs.rows.forget.Tie as tie
 

@@ -14,7 +14,7 @@ use Rattle.settings.specs.Settings.{ours, longest}
 use Rattle.answers.specs.Numbers.{opened, clear}
 use Rattle.frames.specs.Reading.{toldRead}
 use Rattle.board.specs.Rows.{lists, listsFit}
-use Rattle.board.proofs.Found.{lists-long}
+use Rattle.board.proofs.Halves.{lists-long}
 use Rattle.network.proofs.Admission.{read-sound}
 use Rattle.network.proofs.opening.open_frame.Statement.{statement}
 use Rattle.network.proofs.opening.open_frame.Tie as tie

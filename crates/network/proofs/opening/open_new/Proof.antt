@@ -4,7 +4,8 @@ use Prim.Native.Nat.{_<_}
 use native.Mathlib.Omega.{arith}
 use lib.ListN.{length}
 use borrow.Author.Needs.{needs}
-use Rattle.board.proofs.Found.{row-place, slot-start}
+use Rattle.board.proofs.Found.{row-place}
+use Rattle.board.proofs.Halves.{slot-start}
 use Rattle.network.proofs.opening.open_new.Statement.{statement}
 use Rattle.network.proofs.opening.open_new.Tie as tie
 

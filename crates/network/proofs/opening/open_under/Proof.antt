@@ -7,7 +7,8 @@ use borrow.Author.Needs.{needs}
 use borrow.Author.Tests.{eq-eqb}
 use Rattle.settings.specs.Settings.{ours, top}
 use Rattle.octets.specs.Keys.{theKey}
-use Rattle.board.proofs.Found.{row-place, slot-start}
+use Rattle.board.proofs.Found.{row-place}
+use Rattle.board.proofs.Halves.{slot-start}
 use Rattle.network.specs.Opening.{lent, openedUnder}
 use Rattle.network.proofs.Admission.{under-heard, under-new}
 use Rattle.network.proofs.opening.open_under.Statement.{statement}
