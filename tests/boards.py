@@ -1,4 +1,4 @@
-"""Boards that hand frames to each other: for bv08.py and tunnel.py, which start them.
+"""Boards that hand frames to each other: for bv08.py, tunnel.py and joiner.py, which start them.
 
 Each board is a bench process. A command is written on one board, sealed there, handed over as
 octets, and opened and read on the other. Network sequence numbers and radius, which are no part of
@@ -21,6 +21,10 @@ NOBODY = "0" * 16                      # the sender of an unsecured frame
 STALE_GENUINE = ("refused", 8, "stale", "genuine")
 STALE_ALTERED = ("refused", 8, "stale", "altered")
 FORGED = ("refused", 9, "forged")
+NO_COMMAND = ("refused", 11, "command")
+ROUTERS_KEY = bytes.fromhex("7e11c0de00000000000000000000a001")
+JOINING = (("centre", "aaaaaaaaaaaaaaaa", 0x0000), ("router", "0000000100000000", 0x3C08),
+           ("joiner", "0000000000000001", 0x0BEE))
 
 
 class Board(Bench):
@@ -103,14 +107,16 @@ def open_aps(sender, receiver, identifier, secured, plain):
 
 
 def command(path, identifier, *words):
-    """A command from the path's first board to its last; how that reads it, and the APS frame."""
+    """A command from the path's first board to its last; how that reads it, and the APS frame, as
+    it arrived and opened."""
     sender, receiver = path[0], path[-1]
     plain = sender.write("ack", *words)
     frame = plain if identifier == "none" else sender.seal_aps(receiver, identifier, plain)
     arrived = carry(path, frame)
-    read = receiver.ok("read", identifier, open_aps(sender, receiver, identifier, arrived, plain))
+    opened = open_aps(sender, receiver, identifier, arrived, plain)
+    read = receiver.ok("read", identifier, opened)
     same("the command read", read, *words)
-    return read, arrived
+    return read, arrived, opened
 
 
 def sent_on(router, tunnel, destination, inner):
@@ -138,6 +144,20 @@ def data(path, identifier, profile, cluster, payload, destination=None):
 
 
 # ---- what a joining has ------------------------------------------------------------------------
+
+def set_up_joining(centre, router, joiner):
+    """The router is in the centre's network and has a link key of its own; the joiner has only the
+    link key that it shares with the centre."""
+    for board in (centre, router, joiner):
+        board.ok("board", board.address)
+    for board in (centre, router):
+        board.ok("network", 0, 0, NETWORK_KEY)
+        board.ok("switch", 0)
+    centre.ok("link", router.address, ROUTERS_KEY)
+    router.ok("link", centre.address, ROUTERS_KEY)
+    centre.ok("link", joiner.address, SHARED_KEY)
+    joiner.ok("link", centre.address, SHARED_KEY)
+
 
 def take_network_key(joiner, centre, frame, plain):
     """A joiner opens and reads the Transport-Key with the network key, and installs it."""

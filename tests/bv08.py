@@ -92,8 +92,8 @@ def ask_link_key(steps, path, unique):
     command(path, LINK, "request4")
     say(steps[0], f"{device.name:5} -> dutZC  Request-Key, type 4, under 0 (shared link key):"
         " as asked")
-    read, frame = command(path[::-1], LOAD, "transport4", unique, device.address, centre.address,
-                          "")
+    read, frame, _ = command(path[::-1], LOAD, "transport4", unique, device.address,
+                             centre.address, "")
     if unique in frame:
         raise Differs("the link key can be read in the frame")
     device.ok("link", read[3], read[1])
@@ -107,13 +107,13 @@ def prove_link_key(steps, path, unique, stranger):
     """Steps 8, 9 and 17, 18: Verify-Key, not secured by APS, and Confirm-Key under the new key."""
     device, centre = path[0], path[-1]
     own_hash = device.octets("keyedhash", unique, "03")
-    read, _ = command(path, "none", "verify", TRUST_CENTRE_LINK_KEY, device.address, own_hash)
+    read, _, _ = command(path, "none", "verify", TRUST_CENTRE_LINK_KEY, device.address, own_hash)
     hash_here = centre.octets("keyedhash", UNIQUE_KEYS[device.name], "03")
     same("the hash in Verify-Key", read[3:], hash_here)
     say(steps[0], f"{device.name:5} -> dutZC  Verify-Key, keyed hash over 03, not APS secured:"
         " as asked")
     waits("vii", "comparing the hash and sealing the answer as one call; here the script compares")
-    _, frame = command(path[::-1], LINK, "confirm", 0, read[1], read[2])
+    _, frame, _ = command(path[::-1], LINK, "confirm", 0, read[1], read[2])
     same(f"Confirm-Key at {stranger.name}, which hasn't the new key",
          stranger.ask("openaps", centre.address, frame), *FORGED)
     say(steps[1], f"dutZC -> {device.name:5}  Confirm-Key, status 0, under 0 of the new link key:"
@@ -128,7 +128,7 @@ def join_router(centre, router, device):
     say(11, "gZR   -> dutZC  Update-Device, status 1, under 0 of gZR's own link key: as asked")
     plain = centre.write("noack", "transport1", NETWORK_KEY, 0, device.address, centre.address)
     inner = centre.seal_aps(device, TRANSPORT, plain)
-    _, tunnel = command([centre, router], "none", "tunnel", device.address, inner)
+    _, tunnel, _ = command([centre, router], "none", "tunnel", device.address, inner)
     say(12, "dutZC -> gZR    Tunnel, not APS secured, around a Transport-Key under 2: as asked")
     frame = carry_to_joiner(router, device, sent_on(router, tunnel, device, inner))
     take_network_key(device, centre, frame, plain)

@@ -30,6 +30,15 @@ FIELDS.update({f"zbee_aps.cmd.{name}": number for name in (
     "id", "key_type", "seqno", "init_flag", "addr", "update_status", "status")})
 FIELDS.update({f"zbee_aps.cmd.{name}": digits for name in (
     "key", "dst", "src", "partner", "device", "key_hash")})
+NEWER = (4, 4)  # the version from which on Relay and TLVs have fields, and empty payloads a tag
+MALFORMED = "_ws.malformed"
+NOT_READ = ["[Malformed Packet: ZigBee APS]", MALFORMED]
+TLV_FIELDS = {MALFORMED: str}
+TLV_FIELDS.update({f"zbee_tlv.{name}": number for name in (
+    "type_global", "type", "length", "manufacturer_specific", "supported_key_negotiation_methods",
+    "supported_secrets", "node_id", "frag_opt", "max_buf_size", "relay.type", "relay.length")})
+TLV_FIELDS.update({f"zbee_tlv.{name}": digits for name in (
+    "value", "device_eui64", "relay.joiner_ieee")})
 
 
 def write_capture(path, frames):
@@ -42,11 +51,22 @@ def write_capture(path, frames):
             capture.write(struct.pack("<IIII", second, 0, len(mac), len(mac)) + mac)
 
 
+def version():
+    """The first line that tshark says of itself, and the numbers of its version."""
+    said = subprocess.run(["tshark", "--version"], capture_output=True, text=True, check=False)
+    first = said.stdout.split("\n")[0]
+    numbers = re.search(r"(\d+)\.(\d+)", first)
+    if numbers is None:
+        give_up(f"tshark doesn't say its version: {first or said.stderr.strip()}")
+    return first, tuple(map(int, numbers.groups()))
+
+
 class Tshark:
     """tshark with keys, and with nobody's own preferences: a folder has none."""
 
-    def __init__(self, folder, keys):
-        self.folder, self.keys = folder, keys
+    def __init__(self, folder, keys, newer):
+        self.folder, self.keys, self.newer = folder, keys, newer
+        self.asked = {**FIELDS, **(TLV_FIELDS if newer else {})}
 
     def says(self, capture, *words):
         """What tshark prints of a capture."""
@@ -75,13 +95,20 @@ class Tshark:
             frames.append(sources)
         return frames
 
+    def opened(self, capture):
+        """For each frame of a capture the layers that tshark opened: by their keys, or, where it
+        has none for an empty payload, by what it deciphered."""
+        if self.newer:
+            return [read["zbee.sec.key"] for read in self.fields(capture)]
+        return self.deciphered(capture)
+
     def fields(self, capture):
         """For each frame of a capture what tshark reads of it, as lists by the field's name."""
-        words = [word for name in FIELDS for word in ("-e", name)]
+        words = [word for name in self.asked for word in ("-e", name)]
         said = self.says(capture, "-T", "fields", "-E", "occurrence=a", *words)
         frames = []
         for line in said.splitlines():
-            found = zip(FIELDS.items(), line.split("\t"))
+            found = zip(self.asked.items(), line.split("\t"))
             frames.append({name: [read(one) for one in shown.split(",") if one]
                            for (name, read), shown in found})
         return frames

@@ -25,15 +25,11 @@ from pathlib import Path
 sys.path.insert(0, str(Path(__file__).resolve().parent.parent))
 
 from bench_pipe import flipped, in_words, least
-from boards import (FORGED, LINK, NETWORK_KEY, SHARED_KEY, STALE_ALTERED, STALE_GENUINE, TRANSPORT,
-                    UNSECURED_JOIN, announce, carry, carry_to_joiner, command, counted, open_aps,
-                    run, same, sent_on, take_network_key)
+from boards import (FORGED, JOINING, LINK, NETWORK_KEY, NO_COMMAND, STALE_ALTERED, STALE_GENUINE,
+                    TRANSPORT, UNSECURED_JOIN, announce, carry, carry_to_joiner, command, counted,
+                    open_aps, run, same, sent_on, set_up_joining, take_network_key)
 
-DEVICES = (("centre", "aaaaaaaaaaaaaaaa", 0x0000), ("router", "0000000100000000", 0x3C08),
-           ("joiner", "0000000000000001", 0x0BEE))
-ROUTERS_KEY = bytes.fromhex("7e11c0de00000000000000000000a001")
 NO_KEY = bytes(16)
-NO_COMMAND = ("refused", 11, "command")
 INSIDE = 11                  # where the inner frame starts in a Tunnel without security
 SECURITY = INSIDE + 2        # its security control
 STATUSES = range(8)          # Table 5-1
@@ -56,20 +52,6 @@ def after(words):
 
 
 # ---- the packets -------------------------------------------------------------------------------
-
-def set_up(centre, router, joiner):
-    """The router is in the centre's network and has a link key of its own; the joiner has only the
-    link key that it shares with the centre."""
-    for board in (centre, router, joiner):
-        board.ok("board", board.address)
-    for board in (centre, router):
-        board.ok("network", 0, 0, NETWORK_KEY)
-        board.ok("switch", 0)
-    centre.ok("link", router.address, ROUTERS_KEY)
-    router.ok("link", centre.address, ROUTERS_KEY)
-    centre.ok("link", joiner.address, SHARED_KEY)
-    joiner.ok("link", centre.address, SHARED_KEY)
-
 
 def spent(board, before, outgoing, aps, what):
     """The state now, the counters raised by so much since before."""
@@ -188,7 +170,7 @@ def other_joinings(centre, router, joiner):
 
 def play(centre, router, joiner):
     """The packets of the document, and what follows them here."""
-    set_up(centre, router, joiner)
+    set_up_joining(centre, router, joiner)
     tunnel, inner = join(centre, router, joiner)
     after("the inner seal spent one outgoing counter, the Tunnel none and one APS counter")
     causes(centre, router, joiner, tunnel)
@@ -199,4 +181,4 @@ def play(centre, router, joiner):
 
 
 if __name__ == "__main__":
-    sys.exit(in_words(lambda: run(__doc__, DEVICES, play, "all packets as told")))
+    sys.exit(in_words(lambda: run(__doc__, JOINING, play, "all packets as told")))

@@ -14,9 +14,13 @@ key sequence number, the tag and the key used; and what Wireshark shows of the h
 command inside. The frame inside of a tunnel Wireshark deciphers in its place; it is also looked at
 as the router hands it on (`route`), in a network frame without security.
 
+Wireshark 4.4 and later read Relay and the TLVs of commands: then these are compared too, and TLVs
+that the bench refuses when it reads them must be malformed there. An older one doesn't, and a line
+says so before the last.
+
 The other way round, each frame is tried with each of its octets altered in one bit, at either
-layer: Wireshark must decipher none of those. Where a layer's payload is empty Wireshark has nothing
-to decipher and looks at no tag; such lines say so.
+layer: Wireshark must decipher none of those, and find no key for it. Where a layer's payload is
+empty a Wireshark before 4.4 has nothing to decipher and looks at no tag; such lines say so.
 
 One line is printed for each frame, and at last `N frames, 0 differ`. The exit code is 0, 1 where
 something differs, 2 where tshark is missing or fails.
@@ -24,7 +28,6 @@ something differs, 2 where tshark is missing or fails.
 
 import argparse
 import shutil
-import subprocess
 import sys
 import tempfile
 from dataclasses import dataclass, field
@@ -34,7 +37,9 @@ sys.path.insert(0, str(Path(__file__).resolve().parent.parent))
 
 from bench_pipe import (BENCH_HELP, Bench, Differs, bench_words, flipped, give_up, in_words, least,
                         text)
-from tshark import TROUBLE, Tshark, write_capture
+from named_tlvs import (ENCAPSULATION, FEATURES, FRAGMENTS, KEY_METHODS, METHODS, RELAY_MESSAGE,
+                        TEST_SPECIFIC, of_octets, tlv)
+from tshark import MALFORMED, NEWER, NOT_READ, TROUBLE, Tshark, version, write_capture
 
 NETWORK_KEYS = (bytes.fromhex("abcdef01234567890000000000000000"),
                 bytes.fromhex("00112233445566778899aabbccddeeff"))
@@ -43,6 +48,10 @@ LINK_KEYS = (b"ZigBeeAlliance09", bytes.fromhex("7e11c0de00000000000000000000a00
 PARTNERS = ("aaaaaaaaaaaaaaaa", "00124b00deadbeef")
 DEVICE = "00000000000000ed"    # an address that commands speak of
 SENT_KEY = bytes(range(16, 32))
+RELAYED = bytes.fromhex("41070804")  # a message in a Relay: Request-Key, type 4
+# Wireshark 4.4.18 reads an address behind the two masks, whether the value has one or not.
+ADDRESSED = of_octets(METHODS, KEY_METHODS[2:] + least(int(DEVICE, 16), 8))
+JOINER = tlv(ENCAPSULATION, TEST_SPECIFIC + FRAGMENTS + ADDRESSED)
 TAG, NETWORK, NONE = 4, 1, None
 LINK, TRANSPORT, LOAD = 0, 2, 3
 PLAIN = {"zbee_nwk.dst": 0x0000, "zbee_nwk.src": 0x1234, "zbee_nwk.radius": 30}
@@ -74,10 +83,11 @@ class Case:
 
 
 class Sealer:
-    """A board on the bench with both keys of each kind, and the counter that it should be at."""
+    """A board on the bench with both keys of each kind, and the counter that it should be at; newer
+    says whether its frames are for a Wireshark of 4.4 or later."""
 
-    def __init__(self, bench, own, counter):
-        self.bench, self.own, self.counter, self.slot = bench, own, counter, 0
+    def __init__(self, bench, own, counter, newer):
+        self.bench, self.own, self.counter, self.newer, self.slot = bench, own, counter, newer, 0
         bench.ok("board", own, counter)
         for slot in (0, 1):
             bench.ok("network", slot, NUMBERS[slot], NETWORK_KEYS[slot])
@@ -109,7 +119,7 @@ class Sealer:
         frame, layer.level = flipped(frame, len(header), level), level
         name = f"{name}, slot {self.slot}, counter {layer.counter}"
         case = Case(name, frame, [layer, *inside], [NUMBERS[self.slot]], {**PLAIN, **shown})
-        if payload:
+        if payload or self.newer:
             case.altered += [(flipped(frame, place), 0) for place in range(len(frame))]
         return case
 
@@ -149,6 +159,11 @@ def headers():
            {"zbee_nwk.dst64": to, "zbee_nwk.src64": own, "zbee_nwk.relay": 0x0BEE})
 
 
+def as_list(shown):
+    """What is shown of a field, as a list."""
+    return shown if isinstance(shown, list) else [shown]
+
+
 def count(octets):
     """A number of octets in words."""
     return f"{octets} octet{'' if octets == 1 else 's'}"
@@ -185,7 +200,7 @@ def both(sealer, name, partner, identifier, octets, size, shown, level=0):
     outer = header(number=9)
     case = sealer.case(f"APS {name}, identifier {identifier}, {count(len(octets) - size)}", outer,
                        inner, shown, [layer])
-    if layer.payload:
+    if layer.payload or sealer.newer:
         case.altered += [(sealer.network(outer, flipped(inner, place))[0], 1)
                          for place in range(len(inner))]
     return case
@@ -226,20 +241,95 @@ def commands():
         at + "id": 15, at + "key_type": 4, at + "src": a, at + "key_hash": SENT_KEY.hex()}
     yield LINK, ("confirm", 0, 4, a), {
         at + "id": 16, at + "status": 0, at + "key_type": 4, at + "dst": a}
-    for identifier in (LINK, NONE):  # commands that this Wireshark may not know by name
-        yield identifier, ("down", "0008" + 8 * "5a"), {at + "id": 17}
-        yield identifier, ("up", "000a" + 10 * "5a"), {at + "id": 18}
+
+
+# ---- TLVs --------------------------------------------------------------------------------------
+
+def read_as(types, lengths, **fields):
+    """What Wireshark should show of TLVs: their tags and length octets, in the frame's order, those
+    inside of an encapsulation too, and what is in their values."""
+    return {MALFORMED: [], "zbee_tlv.type_global": types, "zbee_tlv.length": lengths,
+            **{f"zbee_tlv.{name}": value for name, value in fields.items()}}
+
+
+def joiners():
+    """TLVs of a joiner for Update-Device: a name, the octets, and what Wireshark should show."""
+    inside = {"supported_key_negotiation_methods": 3, "supported_secrets": 5,
+              "device_eui64": DEVICE}
+    yield "a joiner's TLVs", JOINER, read_as(
+        [0x48, 0x40, 0x47, 0x41], [24, 3, 4, 9], manufacturer_specific=0x1234, value="aabb",
+        node_id=1, frag_opt=2, max_buf_size=10, **inside)
+    yield "one more before them, two behind", FRAGMENTS + JOINER + TEST_SPECIFIC + FRAGMENTS, \
+        read_as([0x47, 0x48, 0x40, 0x47, 0x41, 0x40, 0x47], [4, 24, 3, 4, 9, 3, 4],
+                manufacturer_specific=[0x1234] * 2, value=["aabb"] * 2, node_id=[1] * 3,
+                frag_opt=[2] * 3, max_buf_size=[10] * 3, **inside)
+
+
+def with_tlvs():
+    """Commands with TLVs: a name, the identifiers they go under, the words, what Wireshark should
+    show of the command, and what of its TLVs."""
+    a, tc, at = DEVICE, PARTNERS[0], "zbee_aps.cmd."
+    for name, tlvs, shown in joiners():
+        yield (f"update, {name}", (LINK,), ("update", a, 0x0BEE, 1, tlvs),
+               {at + "id": 6, at + "device": a}, shown)
+    one_octet = tlv(FEATURES, 1) + FRAGMENTS
+    shown = read_as([0x47], [0, 4], type=0, value="01", node_id=1, frag_opt=2, max_buf_size=10)
+    yield ("transport4, a value of one octet", (LOAD,), ("transport4", SENT_KEY, a, tc, one_octet),
+           {at + "id": 5, at + "key_type": 4, at + "dst": a}, shown)
+    for kind, first in ((2, 1), (3, 0)):
+        yield (f"transport{kind}, a value of one octet", (LOAD,),
+               (f"transport{kind}", SENT_KEY, a, first, one_octet),
+               {at + "id": 5, at + "key_type": kind, at + "partner": a}, shown)
+    yield from relays()
+
+
+def relays():
+    """Relay, down and up, with a message and a TLV before and behind it."""
+    at, told = "zbee_aps.cmd.", tlv(RELAY_MESSAGE, int(DEVICE, 16), RELAYED)
+    relayed = {"relay.type": 0, "relay.length": 11, "relay.joiner_ieee": DEVICE}
+    fragments = {"node_id": 1, "frag_opt": 2, "max_buf_size": 10}
+    for number, word in ((17, "down"), (18, "up")):
+        inside = {at + "id": [number, 8], at + "key_type": 4}
+        for name, tlvs, shown in (
+                ("a message", told, read_as([], [], **relayed)),
+                ("a TLV before it", FRAGMENTS + told, read_as([0x47], [4], **relayed, **fragments)),
+                ("one behind it", told + FRAGMENTS, read_as([0x47], [4], **relayed, **fragments))):
+            yield (f"{word}, {name}", (LINK, NONE), (word, tlvs), {at + "id": number},
+                   {**shown, **inside})
+
+
+def cut_cases(sealer):
+    """TLVs that the bench refuses when it reads them, and Wireshark too."""
+    own = sealer.bench.octets("write", "ack", "update", DEVICE, 0x0BEE, 1, "")
+    for name, tlvs in (("cut by an octet", JOINER[:-1]), ("cut to tag and length", JOINER[:2]),
+                       ("without a value at the end", JOINER + FRAGMENTS[:1] + b"\x00"),
+                       ("with its length for the length octet",
+                        FRAGMENTS[:1] + bytes([len(FRAGMENTS) - 2]) + FRAGMENTS[2:])):
+        read = sealer.bench.ask("read", LINK, own + tlvs)
+        if read != ["refused", "11", "command"]:
+            raise Differs(f"TLVs {name} are read: {' '.join(read)}")
+        yield sealer.case(f"APS command update, a TLV {name}", header(), own + tlvs, {
+            "zbee_aps.cmd.id": 6, **({MALFORMED: NOT_READ} if sealer.newer else {})})
+
+
+def all_commands(newer):
+    """Every command: a name, the identifier it goes under, its words, and what is shown of it."""
+    for identifier, words, shown in commands():
+        yield words[0], identifier, words, shown
+    for name, identifiers, words, shown, of_tlvs in with_tlvs():
+        for identifier in identifiers:
+            yield name, identifier, words, {**shown, **(of_tlvs if newer else {})}
 
 
 def command_cases(sealer):
     """Commands as `write` makes them."""
     sealer.use(0)
-    for identifier, words, shown in commands():
+    for name, identifier, words, shown in all_commands(sealer.newer):
         plain = sealer.bench.octets("write", "ack", *words)
         if identifier is NONE:
-            yield sealer.case(f"APS command {words[0]}, not secured by APS", header(), plain, shown)
+            yield sealer.case(f"APS command {name}, not secured by APS", header(), plain, shown)
         else:
-            yield both(sealer, f"command {words[0]}", 0, identifier, plain, 2, shown)
+            yield both(sealer, f"command {name}", 0, identifier, plain, 2, shown)
 
 
 # ---- tunnels -----------------------------------------------------------------------------------
@@ -248,8 +338,8 @@ def in_tunnel(shown):
     """What Wireshark should show of a tunnel: its own identifier and destination, then what it
     shows of the command inside."""
     at = "zbee_aps.cmd."
-    inside = [shown[at + "dst"]] if at + "dst" in shown else []
-    return {**shown, at + "id": [14, shown[at + "id"]], at + "dst": [DEVICE, *inside]}
+    inside = as_list(shown[at + "dst"]) if at + "dst" in shown else []
+    return {**shown, at + "id": [14, *as_list(shown[at + "id"])], at + "dst": [DEVICE, *inside]}
 
 
 def around(sealer, name, inner, layer, shown):
@@ -277,12 +367,12 @@ def sent_on(sealer, name, tunnel, layer, shown):
 def tunnel_cases(sealer):
     """Tunnels around every command that goes secured, of delivery 0 and 2 by turns, and what the
     router sends on of them."""
-    secured = [case for case in commands() if case[0] is not NONE]
-    for turn, (identifier, words, shown) in enumerate(secured):
+    secured = [case for case in all_commands(sealer.newer) if case[1] is not NONE]
+    for turn, (what, identifier, words, shown) in enumerate(secured):
         sealer.use(turn % 2)
         plain = flipped(sealer.bench.octets("write", "noack", *words), 0, turn % 2 << 3)
         inner, layer = sealer.aps(turn // 2 % 2, identifier, plain[:2], plain[2:])
-        name = f"{words[0]}, identifier {identifier}, delivery {turn % 2 * 2}"
+        name = f"{what}, identifier {identifier}, delivery {turn % 2 * 2}"
         case, tunnel = around(sealer, name, inner, layer, shown)
         yield case
         yield sent_on(sealer, name, tunnel, layer, shown)
@@ -290,11 +380,11 @@ def tunnel_cases(sealer):
 
 # ---- counters, levels --------------------------------------------------------------------------
 
-def counter_cases(bench):
+def counter_cases(bench, newer):
     """Frames of other boards at other counters, up to the last one that is sealed."""
     for own, counter in (("00124b0001020304", 0), ("fffffffffffffffe", 255), ("1", 65535),
                          ("8000000000000000", 2**31 - 1), ("00124b0001020304", 2**32 - 3)):
-        sealer = Sealer(bench, own.zfill(16), counter)
+        sealer = Sealer(bench, own.zfill(16), counter, newer)
         sealer.use(counter % 2)
         octets = bytes.fromhex("000106000401010941")
         inner, layer = sealer.aps(1, LINK, octets[:8], octets[8:])
@@ -311,38 +401,36 @@ def level_cases(sealer):
         yield both(sealer, f"data, level {level} on the wire", 0, LINK, octets, 8, {}, level)
 
 
-def all_cases(bench):
+def all_cases(bench, newer):
     """Every case."""
-    sealer = Sealer(bench, "0000000100000000", 0)
-    return [*network_cases(sealer), *aps_cases(sealer), *command_cases(sealer),
-            *tunnel_cases(sealer), *level_cases(sealer), *counter_cases(bench)]
+    sealer = Sealer(bench, "0000000100000000", 0, newer)
+    return [*network_cases(sealer), *aps_cases(sealer), *command_cases(sealer), *cut_cases(sealer),
+            *tunnel_cases(sealer), *level_cases(sealer), *counter_cases(bench, newer)]
 
 
 # ---- comparing ---------------------------------------------------------------------------------
 
-def expected(case):
+def expected(case, newer):
     """What tshark should read of a frame."""
     layers = case.layers
-    filled = [layer for layer in layers if layer.payload]
+    judged = [layer for layer in layers if layer.payload or newer]
     asked = {"zbee.sec.field": [0x20 | layer.identifier << 3 | layer.level for layer in layers],
              "zbee.sec.counter": [layer.counter for layer in layers],
              "zbee.sec.src64": [layer.sender for layer in layers],
              "zbee.sec.key_id": [layer.identifier for layer in layers],
              "zbee.sec.mic": [layer.tag.hex() for layer in layers],
-             "zbee.sec.key": [layer.key.hex() for layer in filled],
+             "zbee.sec.key": [layer.key.hex() for layer in judged],
              "zbee.sec.key_seqno": case.sequence, **{name: [] for name in TROUBLE}}
-    for name, value in case.shown.items():
-        asked[name] = value if isinstance(value, list) else [value]
-    return asked
+    return {**asked, **{name: as_list(value) for name, value in case.shown.items()}}
 
 
-def differences(case, payloads, read, altered):
+def differences(case, payloads, read, altered, newer):
     """What is not as it should be with one frame and its altered copies."""
     asked = [layer.payload for layer in case.layers if layer.payload]
     if payloads != asked:
         yield f"deciphered {' '.join(map(text, payloads)) or 'nothing'}, and not " + \
             " ".join(map(text, asked))
-    for name, value in expected(case).items():
+    for name, value in expected(case, newer).items():
         if read[name] != value:
             yield f"{name} is {read[name]}, and not {value}"
     for (frame, most), found in zip(case.altered, altered):
@@ -350,19 +438,19 @@ def differences(case, payloads, read, altered):
             yield f"deciphered though altered: {frame.hex()}"
 
 
-def verdict(case, wrong):
+def verdict(case, wrong, newer):
     """What the line of a frame says."""
     if wrong:
         return "; ".join(wrong[:3])
     said = "alike"
     if case.altered:
         said += f"; altered {len(case.altered)} times, never deciphered"
-    if not all(layer.payload for layer in case.layers):
+    if not newer and not all(layer.payload for layer in case.layers):
         said += "; a payload is empty, and its tag not looked at"
     return said
 
 
-def look(folder, cases, keep):
+def look(folder, cases, keep, newer):
     """What tshark deciphers and reads of the frames, and deciphers of the altered ones."""
     sealed, spoilt = folder / "sealed.pcap", folder / "altered.pcap"
     frames = [case.frame for case in cases]
@@ -371,22 +459,22 @@ def look(folder, cases, keep):
     write_capture(spoilt, altered)
     if keep:
         shutil.copy(sealed, keep)
-    tshark = Tshark(folder, NETWORK_KEYS + LINK_KEYS)
-    seen = tshark.deciphered(sealed), tshark.fields(sealed), tshark.deciphered(spoilt)
+    tshark = Tshark(folder, NETWORK_KEYS + LINK_KEYS, newer)
+    seen = tshark.deciphered(sealed), tshark.fields(sealed), tshark.opened(spoilt)
     if [len(found) for found in seen] != [len(frames), len(frames), len(altered)]:
         raise Differs("tshark doesn't tell of as many frames as it was given")
     return seen
 
 
-def compare(folder, cases, keep):
+def compare(folder, cases, keep, newer):
     """Prints a line for each frame; how many differ."""
-    payloads, read, rest = look(folder, cases, keep)
+    payloads, read, rest = look(folder, cases, keep, newer)
     differ = 0
     for case, plain, found in zip(cases, payloads, read):
         altered, rest = rest[:len(case.altered)], rest[len(case.altered):]
-        wrong = list(differences(case, plain, found, altered))
+        wrong = list(differences(case, plain, found, altered, newer))
         differ += bool(wrong)
-        print(f"{case.name}: {verdict(case, wrong)}")
+        print(f"{case.name}: {verdict(case, wrong, newer)}")
     return differ
 
 
@@ -399,18 +487,21 @@ def main():
     given = parser.parse_args()
     if shutil.which("tshark") is None:
         give_up("tshark is missing: install it (Debian: apt-get install -y tshark)")
-    version = subprocess.run(["tshark", "--version"], capture_output=True, text=True, check=False)
-    print(version.stdout.split("\n")[0])
+    said, numbers = version()
+    newer = numbers >= NEWER
+    print(said)
     bench = Bench(bench_words(given.bench))
     try:
-        cases = all_cases(bench)
+        cases = all_cases(bench, newer)
         with tempfile.TemporaryDirectory() as folder:
-            differ = compare(Path(folder), cases, given.keep)
+            differ = compare(Path(folder), cases, given.keep, newer)
     except Differs as difference:
         print(difference)
         return 1
     finally:
         bench.close()
+    print("Relay and TLVs were compared" if newer else
+          "Relay and TLVs were not compared: that needs Wireshark 4.4 or later")
     print(f"{len(cases)} frames, {differ} differ")
     return 1 if differ else 0
 

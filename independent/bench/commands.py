@@ -1,17 +1,18 @@
 """The script of `bench`: APS commands read and written, TLVs, the APS counter.
 
 Document 01, "The commands", with the points that docs/DECISIONS.md settles there and for the bench
-language. Layouts and protections are written out here once more, apart from model/commands.py.
+language; document 02 (iv) for the length of a TLV. Layouts and protections are written out here
+once more, apart from model/commands.py.
 """
 
 from ..lines import Chance, address, ok, run_of, sure
 from ..published import annexc
-from .tools import ALL_ONES, OWN, no
+from .tools import ALL_ONES, OWN, no, tlv
 
 DEVICE, TRUST = 0x00124B00AABBCCDD, 0x0102030405060708
 WIRE_DEVICE, WIRE_TRUST = bytes.fromhex("ddccbbaa004b1200"), bytes.fromhex("0807060504030201")
 KEY, HASH, INNER = run_of(16, 40), run_of(16, 90), b"\x21\x05\x20" + run_of(17, 7)
-RELAY = b"\x00\x08" + run_of(8)
+RELAY = tlv(0, run_of(8))
 UNDER = {"transport1": (2,), "transport2": (3,), "transport3": (3,), "transport4": (3,),
          "update": (0,), "remove": (0,), "request2": (0,), "request4": (0,),
          "switchkey": ("none", 0), "tunnel": ("none",), "verify": ("none",), "confirm": (0,),
@@ -20,10 +21,12 @@ LEAST = {"transport1": 35, "transport2": 27, "transport3": 27, "transport4": 34,
          "remove": 9, "request2": 10, "request4": 2, "switchkey": 2, "tunnel": 29, "verify": 26,
          "confirm": 11, "down": 11, "up": 11}
 PROTECTIONS = ("none", 0, 1, 2, 3, 4, 255)
-TLV_SETS = (b"\x00\x00", b"\xff\x00", b"\x01\x03abc", b"\x01\x01x\x01\x02yz\x00\x00",
-            b"\x00\x08relaying", b"\x4b\x01\x02\x00\x09relaying!")
-BAD_TLVS = (b"\x00", b"\x01\x01", b"\x01\x02x", b"\x00\x00\x00", b"\x01\x01x\x02",
-            b"\x01\xff" + bytes(40), b"\x01\x01xy")
+TLV_SETS = (tlv(0, b"\x00"), tlv(255, b"\xff"), tlv(1, b"abc"),
+            tlv(1, b"x") + tlv(1, b"yz") + tlv(0, b"\x00"), tlv(0, b"relaying"),
+            tlv(0x4B, b"\x02") + tlv(0, b"relaying!"))
+CUT_LONG = b"\x01\xff" + bytes(41)
+BAD_TLVS = (b"\x00", b"\x01\x00", b"\x01\x01x", tlv(0, b"\x00") + b"\x00",
+            tlv(1, b"x") + b"\x02", CUT_LONG, tlv(1, b"x") + b"y")
 
 
 def bodies(tlvs=b"", relay=RELAY):
@@ -65,7 +68,7 @@ def least(word, body):
 
 def filled(body, size):
     """A body grown to a size by one TLV of tag 1."""
-    return body + bytes([1, size - len(body) - 2]) + run_of(size - len(body) - 2)
+    return body + tlv(1, run_of(size - len(body) - 2))
 
 
 # ---- reading -----------------------------------------------------------------------------------
@@ -119,31 +122,29 @@ def add_tlvs(bench):
     bench.group("read: TLVs that don't fill the rest exactly")
     for tlvs in BAD_TLVS:
         for word, _, body in bodies(tlvs):
-            if word in WITH_TLVS and (word != "up" or tlvs in (b"\x01\xff" + bytes(40),)):
+            if word in WITH_TLVS and (word != "up" or tlvs == CUT_LONG):
                 read(bench, UNDER[word][0], body, no(11))
                 bench.add("tlv", UNDER[word][0], 1, b"\x41\x07" + body, expect=ok(""))
     bench.group("DECISIONS, relay-any-tlv: any TLV of tag 0 with 8 or more octets; tlv: the first")
-    for tlvs, good in ((b"", False), (b"\x00\x07" + bytes(7), False),
-                       (b"\x01\x08" + bytes(8), False),
-                       (b"\x00\x00" + RELAY, True), (RELAY + b"\x00\x01z", True),
-                       (b"\x00\x07" + bytes(7) + b"\x01\x09" + bytes(9), False),
-                       (b"\x05\x01a" + RELAY + b"\x05\x00", True), (b"\x00\x09" + run_of(9), True),
-                       (RELAY + RELAY, True), (b"\x00\x04abcd\x00\x04efgh", False),
-                       (RELAY + b"\x00", False), (b"\x00\x5f" + run_of(95), True)):
+    for tlvs, first in ((b"", None), (tlv(0, bytes(7)), None), (tlv(1, bytes(8)), None),
+                        (tlv(0, b"y") + RELAY, b"y"), (RELAY + tlv(0, b"z"), run_of(8)),
+                        (tlv(0, bytes(7)) + tlv(1, bytes(9)), None),
+                        (tlv(5, b"a") + RELAY + tlv(5, b"b"), run_of(8)),
+                        (tlv(0, run_of(9)), run_of(9)), (RELAY + RELAY, run_of(8)),
+                        (tlv(0, b"abcd") + tlv(0, b"efgh"), None), (RELAY + b"\x00", None),
+                        (tlv(0, run_of(95)), run_of(95))):
         for word, identifier in (("down", b"\x11"), ("up", b"\x12")):
-            read(bench, "none", identifier + tlvs, ok(word, tlvs) if good else no(11))
-            first = tlvs[2:2 + tlvs[1]] if good and tlvs[0] == 0 else None
-            bench.add("tlv", 0, 0, b"\x01\x07" + identifier + tlvs,
-                      expect=None if first is None else ok(first))
+            read(bench, "none", identifier + tlvs, no(11) if first is None else ok(word, tlvs))
+            bench.add("tlv", 0, 0, b"\x01\x07" + identifier + tlvs, expect=ok(first or b""))
     add_values(bench)
 
 
 def add_values(bench):
     """The values of tags, missing, refused, first of several."""
-    bench.group("tlv: first of several, empty, missing; DECISIONS, parts-empty")
-    body = b"\x06" + WIRE_DEVICE + b"\x08\x3c\x01" + b"\x07\x02ab\x08\x00\x07\x01c\xff\x03xyz"
-    frame = b"\x41\x07" + body
-    for tag, value in ((7, b"ab"), (8, b""), (255, b"xyz"), (0, b""), (6, b"")):
+    bench.group("tlv: first of several, the least, missing; DECISIONS, parts-empty")
+    tlvs = tlv(7, b"ab") + tlv(8, b"\x00") + tlv(7, b"c") + tlv(255, b"xyz")
+    frame = b"\x41\x07\x06" + WIRE_DEVICE + b"\x08\x3c\x01" + tlvs
+    for tag, value in ((7, b"ab"), (8, b"\x00"), (255, b"xyz"), (0, b""), (6, b"")):
         bench.add("tlv", 0, tag, frame, expect=ok(value))
         for protection in ("none", 1, 2, 3, 4, 255):
             bench.add("tlv", protection, tag, frame, expect=ok(""))
@@ -171,7 +172,7 @@ def add_identifiers(bench):
             read(bench, 0, bytes([8, kind]) + bytes(size - 2), no(11))
     bench.group("read: one type's size under the other's name")
     for kind, size, number in ((1, 34, 11), (4, 35, 11), (2, 26, 11), (3, 28, 11), (1, 27, 11),
-                               (4, 27, 11), (4, 36, None), (2, 29, None)):
+                               (4, 27, 11), (4, 36, 11), (2, 29, 11), (4, 37, None), (2, 30, None)):
         read(bench, 2 if kind == 1 else 3, bytes([5, kind]) + bytes(size - 2),
              number and no(number))
     read(bench, 0, b"\x08\x02", no(11))
@@ -249,7 +250,7 @@ def add_limits(bench, counter):
                       expect=ok(bytes([0x41, counter]) + full) if good else no(2))
             counter += good
     bench.add("write", "ack", "tunnel", address(0), INNER + bytes(236), expect=no(2))
-    bench.add("write", "noack", "down", b"\x00\xfe" + bytes(254), expect=no(2))
+    bench.add("write", "noack", "down", tlv(0, bytes(254)), expect=no(2))
     bench.state(77, counter, "-")
     return counter
 
@@ -267,13 +268,13 @@ def add_wrong_parts(bench, counter):
             elif field in (KEY, HASH):
                 wrong = [bytes(n) for n in (0, 1, 15, 17, 32, 256)]
             else:
-                wrong = [*BAD_TLVS, bytes(255)] + ([b"", b"\x00\x07" + bytes(7)]
+                wrong = [*BAD_TLVS, bytes(256)] + ([b"", tlv(0, bytes(7))]
                                                    if word in ("down", "up") else [])
             for part in wrong:
                 bench.add("write", "ack", word, *fields[:place], part, *fields[place + 1:],
                           expect=no(11))
     bench.group("write: 11 before 2")
-    long = b"\x01\xc8" + bytes(200)
+    long = tlv(1, bytes(200))
     bench.add("write", "ack", "transport2", KEY[:15], address(DEVICE), 0, long, expect=no(11))
     bench.add("write", "ack", "transport2", KEY, address(DEVICE), 0, long + b"\x00", expect=no(11))
     bench.add("write", "ack", "transport2", KEY, address(DEVICE), 0, long, expect=no(2))

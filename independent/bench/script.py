@@ -1,19 +1,22 @@
 """Puts the script of `bench` together, and checks that it shows what it must.
 
 Document 01, the table of refusals and their orders: which line can be refused with which number;
-document 02 (i) and the bench language for `route`, 02 (iii) and that language for `heard`.
+document 02 (i) and the bench language for `route`, 02 (iii) and that language for `heard`; document
+02 (iv) for TLVs, which are walked here in another way than the model's.
 """
 
-from ..lines import refused, sure
+from ..lines import ok, refused, sure
 from ..model.commands import KINDS
 from .aps import add_aps
 from .commands import add_commands
-from .desk import LENT
+from .desk import LENT, Desk
 from .halls import LENGTHS, REFUSED, add_halls
+from .joiner import add_joiner
 from .keys import add_keys
 from .line_forms import add_bad_lines, add_desk, add_fine, add_last, add_without_board
 from .network import add_network
 from .play import add_play
+from .tlvs import RELAYS, add_length_octets
 from .tools import Bench
 from .tunnels import add_tunnels
 
@@ -41,7 +44,11 @@ REFUSALS = {  # every number that a line can be refused with
 }
 JUDGING = ("network", "forget", "open", "heard")  # the lines that judge the lists
 NOT_JUDGING = ("switch", "link", "unlink", "openaps", "seal", "sealaps", "write", "state", "links")
-LEAST_LINES, MOST_LINES = 8000, 10500
+TLVS_FROM = {  # identifier, and type where it has one; the place of TLVs in a frame
+    "transport4": (b"\x05\x04", 36), "transport2": (b"\x05\x02", 29),
+    "transport3": (b"\x05\x03", 29), "update": (b"\x06", 14), "down": (b"\x11", 3),
+    "up": (b"\x12", 3)}
+LEAST_LINES, MOST_LINES = 8000, 11500
 
 
 def outcomes(bench):
@@ -126,6 +133,79 @@ def check_routing(bench):
     sure(shown == wanted_answers, "commands routed otherwise", sorted(shown ^ wanted_answers))
 
 
+# ---- TLVs --------------------------------------------------------------------------------------
+
+def walked(octets):
+    """The TLVs that fill the octets, as pairs of tag and value, or None. From the end back it is
+    found of every place whether the octets from there on are filled, and by which TLVs."""
+    found = {len(octets): ()}
+    for place in reversed(range(len(octets) - 2)):
+        end = place + 2 + octets[place + 1] + 1
+        if end in found:
+            found[place] = ((octets[place], octets[place + 2:end]), *found[end])
+    return found.get(0)
+
+
+def carried(bench):
+    """Of every line that reads or writes a command with TLVs, and comes to judge them: its word,
+    the command's, their octets, and whether the answer is 11. To ask for a value is to read."""
+    desk = Desk()
+    for line, answer in bench.given:
+        word, *fields = line.split(b"\t")
+        if word == b"tlv" and answer != "bad":
+            word, fields = b"read", [fields[0], fields[2]]
+            answer = desk.answer(b"\t".join([word, *fields]))
+        eleven = answer == refused(11)
+        if word == b"read" and (eleven or answer == refused(12) or answer.startswith("ok\t")):
+            frame = bytes.fromhex(fields[1].decode("ascii"))
+            for command, (start, place) in TLVS_FROM.items():
+                if frame[2:].startswith(start) and len(frame) >= place:
+                    yield "read", command, frame[place:], eleven
+        elif word == b"write" and answer not in ("bad", refused(1)):
+            command = fields[1].decode("ascii")
+            if command in TLVS_FROM and (command[:9] != "transport" or len(fields[2]) == 32):
+                yield "write", command, bytes.fromhex(fields[-1].decode("ascii")), eleven
+
+
+def check_carried(bench):
+    """TLVs are 11 exactly where they don't fill their place or fail Relay's rule; each command is
+    read and written with good ones, with a value of one octet, without any, and with bad ones."""
+    met = set()
+    for word, command, octets, eleven in carried(bench):
+        tlvs = walked(octets)
+        fits = tlvs is not None and (command not in RELAYS or
+                                     any(tag == 0 and len(value) >= 8 for tag, value in tlvs))
+        sure(eleven != fits, "TLVs are judged otherwise", word, command, octets.hex())
+        met.add((word, command, "good" if fits else "filled" if tlvs is not None else "bad"))
+        if any(len(value) == 1 for _, value in tlvs or ()):
+            met.add((word, command, "one octet"))
+        met.add((word, command, "none" if not octets else "some"))
+    kinds = {"good", "bad", "one octet", "none", "some"}
+    wanted_kinds = {(word, command, kind) for word in ("read", "write") for command in TLVS_FROM
+                    for kind in (kinds | {"filled"} if command in RELAYS else kinds)}
+    sure(met == wanted_kinds, "TLVs are not shown", sorted(met ^ wanted_kinds))
+
+
+def check_values(bench):
+    """A value that is asked for belongs to the first TLV of its tag that is there; it is empty
+    where the frame is refused or none has the tag, and only there. All of it is shown."""
+    desk, met = Desk(), set()
+    for line, answer in bench.given:
+        word, *fields = line.split(b"\t")
+        if word != b"tlv" or answer == "bad":
+            continue
+        under, tag, frame = fields
+        verdict, *told = desk.answer(b"\t".join([b"read", under, frame])).split("\t")
+        tlvs = walked(bytes.fromhex(told[-1])) if verdict == "ok" and told[0] in TLVS_FROM else ()
+        values = [value for other, value in tlvs if other == int(tag)]
+        sure(answer == ok(*values[:1] or [b""]), "another value of a TLV", line)
+        sure((answer == ok(b"")) == (not values), "an empty value", line)
+        met.add(verdict if verdict != "ok" else min(len(values), 2))
+    sure(met == {"refused", 0, 1, 2}, "values are not asked for", met)
+
+
+# ---- the whole ---------------------------------------------------------------------------------
+
 def check_shares(bench):
     """At least a third of the frames open, also without those that are not secured."""
     opens = [answer for line, answer in bench.given
@@ -142,8 +222,10 @@ def make_script():
     """The whole script."""
     bench = Bench()
     for add in (add_without_board, add_desk, add_bad_lines, add_fine, add_keys, add_halls,
-                add_network, add_aps, add_commands, add_tunnels, add_play, add_last):
+                add_network, add_aps, add_commands, add_length_octets, add_joiner, add_tunnels,
+                add_play, add_last):
         add(bench)
-    for check in (check_outcomes, check_halls, check_commands, check_routing, check_shares):
+    for check in (check_outcomes, check_halls, check_commands, check_routing, check_carried,
+                  check_values, check_shares):
         check(bench)
     return bench

@@ -42,6 +42,12 @@ def key(n):
     return bytes((37 * n + 11 * i + 1) % 256 for i in range(16))
 
 
+def tlv(tag, value):
+    """A TLV: tag, length octet, value. The length octet is the value's length less one (document 02
+    (iv)), so that no value is empty."""
+    return bytes([tag, len(value) - 1]) + value
+
+
 def put(octets, place, value):
     """The octets with one of them replaced."""
     return octets[:place] + bytes([value]) + octets[place + 1:]

@@ -1,9 +1,10 @@
 """The script of `margins`: commands written, their parts, and the values of TLVs.
 
-Document 01, "The commands"; document 02 (i) for what stands inside of a Tunnel.
+Document 01, "The commands"; document 02 (i) for what stands inside of a Tunnel, (iv) for the length
+of a TLV.
 """
 
-from ..bench.tools import put
+from ..bench.tools import put, tlv
 from ..lines import ok, run_of, sure
 from .tools import APS_COUNTER, Done
 
@@ -13,8 +14,8 @@ KEY, HASH = bytes(range(0x60, 0x70)), bytes(range(0x70, 0x80))
 INNER = b"\x21\x1e\x20" + bytes(range(0xC0, 0xD1))
 FIRST, SECOND = bytes(range(0x90, 0x9D)), bytes(range(0xA0, 0xAC))
 RELAYED = bytes(range(0xB0, 0xB9))
-TLVS = b"\x1a\x0d" + FIRST + b"\x1b\x0c" + SECOND
-RELAY = b"\x00\x09" + RELAYED
+TLVS = tlv(0x1A, FIRST) + tlv(0x1B, SECOND)
+RELAY = tlv(0, RELAYED)
 
 
 def inner_parts(inner):
@@ -95,19 +96,39 @@ def add_down(script, done):
     script.group("down: TLVs of 10 to 105 octets; DECISIONS, relay-any-tlv: any TLV of tag 0 may "
                  "be the one")
     script.everywhere("down", TLVS + RELAY, gives=done(0x41, b"\x11" + TLVS + RELAY))
-    for tlvs in (b"\x00\x08relaying", b"\x00\x00" + RELAY, b"\x00\x67" + run_of(103)):
+    for tlvs in (tlv(0, b"relaying"), tlv(0, b"x") + RELAY, tlv(0, run_of(103))):
         script.once("down", tlvs, gives=done(0x41, b"\x11" + tlvs))
-    script.ask(108, "down", RELAY + b"\x01\x5c" + run_of(92),
-               gives=done(0x41, b"\x11" + RELAY + b"\x01\x5c" + run_of(92)))
+    full = RELAY + tlv(1, run_of(92))
+    script.ask(108, "down", full, gives=done(0x41, b"\x11" + full))
     script.group("down, 11: TLVs that don't fill their place, and Relay's rule; before 2")
     script.mostly("down", TLVS + RELAY + b"\x00", gives=11)
-    for tlvs in (b"", RELAY + b"\x01\x01", RELAY[:-1], b"\x00\x07" + run_of(7), TLVS,
-                 b"\x00\x04abcd\x00\x04efgh", b"\x01\xc8" + run_of(200), run_of(512)):
+    for tlvs in (b"", RELAY + b"\x01\x00", RELAY[:-1], tlv(0, run_of(7)), TLVS,
+                 tlv(0, b"abcd") + tlv(0, b"efgh"), tlv(1, run_of(200)), run_of(512)):
         script.once("down", tlvs, gives=11)
     script.group("down, 2: over 108 octets, so TLVs of 106")
-    script.mostly("down", b"\x00\x68" + run_of(104), gives=2)
-    for tlvs in (RELAY + b"\x01\x5d" + run_of(93), 2 * (b"\x00\xfe" + run_of(254))):
+    script.mostly("down", tlv(0, run_of(104)), gives=2)
+    for tlvs in (RELAY + tlv(1, run_of(93)), 2 * tlv(0, run_of(254))):
         script.once("down", tlvs, gives=2)
+    add_length_octets(script, done)
+
+
+def add_length_octets(script, done):
+    """Relay down written with raw octets: the length octet is the value's length less one."""
+    script.group("down: length octets 7 and 8, and 0 before and behind Relay's own")
+    for tlvs in (b"\x00\x07" + run_of(8), b"\x00\x08" + run_of(9), b"\x01\x00x" + RELAY,
+                 RELAY + b"\x00\x00\x00"):
+        script.once("down", tlvs, gives=done(0x41, b"\x11" + tlvs))
+    script.group("down, 11: the length octet taken for the length; length octet 6; no value is "
+                 "empty")
+    for tlvs in (b"\x00\x08" + run_of(8), b"\x00\x06" + run_of(7), b"\x00\x06" + run_of(8),
+                 b"\x00\x00", b"\x00\x00" + RELAY, RELAY + b"\x05\x00", b"\x00\x00\x00"):
+        script.once("down", tlvs, gives=11)
+    script.group("down: length octet 255 means 256 octets, which are well formed, so 2; with an "
+                 "octet less or more 11")
+    script.once("down", b"\x00\xff" + run_of(256), gives=2)
+    script.once("down", RELAY + b"\x01\xff" + run_of(256), gives=2)
+    for size in (255, 257):
+        script.once("down", b"\x00\xff" + run_of(size), gives=11)
 
 
 def lacked(parts, turn):
@@ -132,8 +153,9 @@ def add_parts(script):
     script.group("no TLVs; frames of 108 octets; another control")
     for part, under, body, octets in (
             ("tlvs", 3, b"\x05\x02" + KEY + DEVICE + b"\x56", b""),
-            ("key", 3, b"\x05\x02" + KEY + DEVICE + b"\x56\x01\x4d" + run_of(77), KEY),
-            ("tlvs", 0, b"\x12\x00\x67" + run_of(103), b"\x00\x67" + run_of(103)),
+            ("key", 3, b"\x05\x02" + KEY + DEVICE + b"\x56" + tlv(1, run_of(77)), KEY),
+            ("tlvs", 0, b"\x12" + tlv(0, run_of(103)), tlv(0, run_of(103))),
+            ("tlvs", 0, b"\x06" + DEVICE + b"\x57\x58\x59" + b"\x00\x00z", b"\x00\x00z"),
             ("inner", "none", b"\x0e" + DEVICE + INNER + run_of(77), INNER + run_of(77))):
         script.add(part, under, FRONT + body, expect=ok(octets))
     script.add("digest", "none", b"\x09\x3e" + COMMANDS["verify"][1], expect=ok(HASH))
@@ -184,7 +206,9 @@ def add_refused_parts(script):
             ("auxiliary", "none", put(frames["tunnel"], 0, 0x61)),
             ("key", 2, frames["transport1"] + b"\x00"), ("key", 3, put(frames["transport4"], 3, 5)),
             ("digest", "none", frames["verify"][:-1]), ("inner", "none", frames["tunnel"][:-1]),
-            ("tlvs", 3, frames["transport3"] + b"\x1c"), ("tlvs", "none", FRONT + b"\x11" + TLVS)):
+            ("tlvs", 3, frames["transport3"] + b"\x1c"), ("tlvs", "none", FRONT + b"\x11" + TLVS),
+            ("tlvs", 3, frames["transport4"] + b"\x1c\x00"),
+            ("key", 3, frames["transport2"] + b"\x1c\x00")):
         script.add(part, under, frame, expect=ok(b""))
 
 
@@ -197,22 +221,45 @@ def add_values(script):
                 script.add("value", protections[-1], tag, FRONT + body, expect=ok(value))
     for word in ("down", "up"):
         script.add("value", "none", 0, FRONT + COMMANDS[word][1], expect=ok(RELAYED))
-    script.group("value: first of several, empty, tags 0 and 255, missing; the first of tag 0, "
-                 "however short (DECISIONS, relay-any-tlv); the longest")
+    script.group("value: first of several, the least, tags 0 and 255, missing; the first of tag "
+                 "0, however short (DECISIONS, relay-any-tlv); the longest")
     front = FRONT + b"\x06" + DEVICE + b"\x57\x58\x59"
-    tlvs = b"\x07\x02ab\x08\x00\x07\x01c\x00\x03def\x00\x01g\xff\x02hi\xff\x00"
-    for tag, value in ((7, b"ab"), (8, b""), (0, b"def"), (255, b"hi"), (1, b"")):
+    tlvs = (tlv(7, b"ab") + tlv(8, b"j") + tlv(7, b"c") + tlv(0, b"def") + tlv(0, b"g")
+            + tlv(255, b"hi") + tlv(255, b"k"))
+    for tag, value in ((7, b"ab"), (8, b"j"), (0, b"def"), (255, b"hi"), (1, b"")):
         script.add("value", 0, tag, front + tlvs, expect=ok(value))
-    script.add("value", "none", 0, FRONT + b"\x11\x00\x01x" + RELAY, expect=ok(b"x"))
-    script.add("value", 0, 0, FRONT + b"\x12\x00\x00" + RELAY, expect=ok(b""))
-    script.add("value", 0, 0, FRONT + b"\x12\x00\x67" + run_of(103), expect=ok(run_of(103)))
+    script.add("value", "none", 0, FRONT + b"\x11" + tlv(0, b"x") + RELAY, expect=ok(b"x"))
+    script.add("value", 0, 0, FRONT + b"\x12" + tlv(0, b"\x00") + RELAY, expect=ok(b"\x00"))
+    script.add("value", 0, 0, FRONT + b"\x12" + tlv(0, run_of(103)), expect=ok(run_of(103)))
     script.group("value: ill-formed behind a good TLV; over 108; wrong protections; no TLVs")
     for under, tag, frame in (
-            (0, 7, front + tlvs + b"\x07"), (0, 7, front + tlvs + b"\x07\x01"),
-            (0, 7, front + b"\x07\x05abcd"), (0, 7, front + b"\x07\x02ab" + bytes(92)),
+            (0, 7, front + tlvs + b"\x07"), (0, 7, front + tlvs + b"\x07\x00"),
+            (0, 7, front + b"\x07\x04abcd"), (0, 7, front + tlv(7, b"ab") + bytes(93)),
             ("none", 7, front + tlvs), (1, 7, front + tlvs), (2, 7, front + tlvs),
             (3, 7, front + tlvs), (255, 7, front + tlvs), (0, 7, put(front + tlvs, 0, 0x61)),
-            ("none", 0, FRONT + b"\x11\x00\x07" + run_of(7)), (0, 0, front), (0, 255, run_of(512)),
+            ("none", 0, FRONT + b"\x11" + tlv(0, run_of(7))), (0, 0, front), (0, 255, run_of(512)),
             ("none", 0x21, FRONT + COMMANDS["tunnel"][1]),
             (2, 0x60, FRONT + COMMANDS["transport1"][1])):
         script.add("value", under, tag, frame, expect=ok(b""))
+    add_least_values(script, front)
+
+
+def add_least_values(script, front):
+    """Values behind length octets 0 and 1, as raw octets, and where one lacks its octets."""
+    script.group("value: length octet 0 means one octet; zero is no empty value; TLVs inside of a "
+                 "value")
+    tlvs = b"\x07\x00a" + b"\x08\x01bc" + b"\x07\x01de" + b"\xff\x00\x00" + b"\x05\x02\x06\x00f"
+    for tag, value in ((7, b"a"), (8, b"bc"), (255, b"\x00"), (5, b"\x06\x00f"), (6, b"")):
+        script.add("value", 0, tag, front + tlvs, expect=ok(value))
+    script.group("value: the length octet taken for the length, no value behind it, or the next "
+                 "TLV's tag for it: refused, so empty, or what the octets then are")
+    for tag, octets, value in (
+            (7, b"\x07\x02ab", b""), (7, b"\x07\x01a", b""), (8, b"\x07\x01ab\x08\x00", b""),
+            (7, b"\x07\x01ab\x08\x00", b""), (0, b"\x00\x00", b""), (255, b"\xff\x00", b""),
+            (7, b"\x07\x00\x08\x00a", b""), (7, b"\x07\x00\x08\x08\x00a", b"\x08"),
+            (8, b"\x07\x00\x08\x08\x00a", b"a")):
+        script.add("value", 0, tag, front + octets, expect=ok(value))
+    for identifier in (b"\x11", b"\x12"):
+        for octets, value in ((b"\x00\x00" + RELAY, b""), (b"\x00\x08" + run_of(8), b""),
+                              (b"\x00\x06" + run_of(7), b""), (b"\x00\x07" + run_of(8), run_of(8))):
+            script.add("value", 0, 0, FRONT + identifier + octets, expect=ok(value))

@@ -1,8 +1,9 @@
 """The reader and the writer of APS commands, their parts and TLVs, and the router.
 
-Document 01, "The commands" and the table of refusals; document 02 (i); the fields' order is that of
-source document 000, 4.4.11.1 to 4.4.11.10; DECISIONS, addresses-unjudged, relay-any-tlv,
-readers-header, parts-empty, writers-order, and i-inner-order to i-inner-parts.
+Document 01, "The commands" and the table of refusals; document 02 (i), and (iv) for the length of a
+TLV; the fields' order is that of source document 000, 4.4.11.1 to 4.4.11.10; DECISIONS,
+addresses-unjudged, relay-any-tlv, readers-header, parts-empty, writers-order, i-inner-order to
+i-inner-parts, and iv-zero-tlvs to iv-empty.
 """
 
 from dataclasses import dataclass
@@ -14,6 +15,7 @@ MOST = 108
 ROOM = 108
 LEAST_INNER = 20
 INNER_HEADER, INNER_AUXILIARY = 2, 13              # octets
+LEAST_TLV = 3                                      # tag, length octet, one octet of value
 PROTECTIONS = (None, 0, 2, 3)
 
 OCTET, SHORT, ADDRESS = 1, 2, 8                    # numbers, by their octets
@@ -54,19 +56,20 @@ BY_WORD = {kind.word: kind for kind in KINDS}
 # ---- TLVs --------------------------------------------------------------------------------------
 
 def tlvs_of(octets):
-    """The TLVs that fill the octets exactly, as pairs of tag and value, or None."""
+    """The TLVs that fill the octets exactly, as pairs of tag and value, or None. "The length octet
+    is the value's length minus one, so 0 means one octet, and no value is empty" (document 02)."""
     found = []
     while octets:
-        if len(octets) < 2 or len(octets) < 2 + octets[1]:
+        if len(octets) < LEAST_TLV or len(octets) < LEAST_TLV + octets[1]:
             return None
-        end = 2 + octets[1]
+        end = LEAST_TLV + octets[1]
         found.append((octets[0], octets[2:end]))
         octets = octets[end:]
     return found
 
 
 def relays(tlvs):
-    """Whether at least one TLV has tag 0 and 8 or more octets."""
+    """Whether at least one TLV has tag 0 and a value of 8 or more octets."""
     return any(tag == 0 and len(value) >= 8 for tag, value in tlvs)
 
 
@@ -123,7 +126,7 @@ class Command:
         return parts.get(name, b"")
 
     def value_of(self, tag):
-        """The value of the first TLV of a tag; empty if there is none."""
+        """The value of the first TLV of a tag; empty if there is none, and only then."""
         return next((value for t, value in tlvs_of(self.part(TLVS)) if t == tag), b"")
 
 

@@ -181,7 +181,7 @@ module _ (f : List ℕ) where
       go : (x : Walked) → Inside (length (octetsAt f q)) x → Holds f (within (q .from) x)
       go walks.Ill i = omega arith
       go walks.Absent i = omega arith
-      go (walks.At j n) i = omega (arith, most)
+      go (walks.At j n) i = omega (arith, most, i .0)
 
   -- ---- of a span that was answered for a judgement that is the frame's
 

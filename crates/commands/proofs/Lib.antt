@@ -4,4 +4,5 @@ pub mod Laid
 pub mod Judging
 pub mod Inner
 pub mod ReadBack
+pub mod Missing
 pub mod WriteBack

@@ -235,7 +235,7 @@ value-cut : (f : List ℕ) (q : Span) (x : Walked) → Inside (length (octetsAt 
 value-cut f q walks.Ill h = refl
 value-cut f q walks.Absent h = refl
 value-cut f q (walks.At i n) h =
-    sym (part-within f (q .from) (q .count) i n (omega (arith, length-take (q .count) (drop (q .from) f))))
+    sym (part-within f (q .from) (q .count) i n (omega (arith, h .0, length-take (q .count) (drop (q .from) f))))
     ∙ ap (λ (j : ℕ). take n (drop j (octetsAt f q))) (sym (zero-add i))
 
 module _ (f : List ℕ) (i : ℕ) (r : List ℕ) (e : drop i f ≡ r) where
@@ -243,7 +243,7 @@ module _ (f : List ℕ) (i : ℕ) (r : List ℕ) (e : drop i f ≡ r) where
   unfolding restSpan
   rest-cut = part-rest i f ∙ e
 
-  tlvs-cut : (u : Rest) → octetsAt f (tlvsIn u (restSpan (length f) i)) ≡ asTlvs u r
+  pub tlvs-cut : (u : Rest) → octetsAt f (tlvsIn u (restSpan (length f) i)) ≡ asTlvs u r
   unfolding tlvsIn
   tlvs-cut End = refl
   tlvs-cut Tlvs = rest-cut

@@ -5,4 +5,5 @@ pub mod Reading
 pub mod Parts
 pub mod Writing
 pub mod Reverse
+pub mod Missing
 pub mod Code

@@ -1,5 +1,6 @@
 -- Document 01, "The commands" (RULES 9.5): "A key, hash, inner frame, all TLVs or the value of the first TLV of a named tag is asked
--- for alone and handed back as that part of the caller's own frame (empty if refused or missing)."
+-- for alone and handed back as that part of the caller's own frame (empty if refused or missing)." A tag's value is empty then and
+-- only then (Missing), since no value is empty (document 02 (iv)); all TLVs together are empty where a command comes without any, too.
 -- Assumes nothing.
 use mathlib.Core.List.{List}
 use Prim.Native.Nat.{ℕ, _+_, _-_}

@@ -1,4 +1,4 @@
--- Laws of the walk over TLVs: what each turn of the loop finds, and that what was found lies inside.
+-- Laws of the walk over TLVs: what each turn of the loop finds, and that what was found lies inside and has an octet at least.
 -- Assumes nothing.
 use mathlib.Core.Path.{_≡_, refl, sym, ap, subst, _∙_}
 use mathlib.Core.Bool.{Bool, true, false}
@@ -6,7 +6,7 @@ use mathlib.Core.List.{List, [], _∷_}
 use Prim.Native.Nat.{ℕ, zero, suc, _+_, _-_, _≤_, _<_}
 use native.Mathlib.Nat.{add-zero}
 use native.Mathlib.Omega.{arith}
-use lib.Dec.{leb}
+use lib.Dec.{eqb, leb}
 use lib.ListN.{length, getD, drop, drop-of-length-le, length-drop}
 use lib.Seq.{drop-drop}
 use borrow.Author.Tests.{leb-true, leb-false}
@@ -14,10 +14,11 @@ use Rattle.octets.proofs.Choices.{choose}
 use Rattle.octets.proofs.Tabs.{drop-step}
 use Rattle.octets.specs.Choice.{if_then_else_}
 use Rattle.tlvs.specs.declared.Wanted.{Wanted}
+use Rattle.tlvs.specs.declared.Wanted.the-variants.{Tag}
 use Rattle.tlvs.specs.declared.Walked.{Walked}
 use Rattle.tlvs.specs.declared.Walked.the-variants.{Ill, Absent, At}
 use Rattle.tlvs.specs.Filling.{valueSize, Tlv, Tlvs, ill, filling, led, tlvsFrom}
-use Rattle.tlvs.specs.Looking.{wants, firstOf, lookedIn, walked, filled, fills}
+use Rattle.tlvs.specs.Looking.{wants, firstOf, lookedIn, walked, filled, fills, found, among, amongIn, tagged}
 use Rattle.tlvs.specs.Code.{earlier, noted}
 
 -- ---- octets passed
@@ -155,14 +156,19 @@ fills-walked w s x e = go (tlvsFrom 0 0 s) ∙ ap isSound e
     go ill = refl
     go (filling ts) = sound (firstOf w ts) (first-sound w ts)
 
--- ---- what was found lies inside
+-- ---- what was found lies inside, and is never empty
 
 abbrev pub Inside : ℕ → Walked → Type 0
 Inside m Ill = 0 ≤ m
 Inside m Absent = 0 ≤ m
-Inside m (At i n) = i + n ≤ m
+Inside m (At i n) = (i + n ≤ m) × (1 ≤ n)
 
-led-inside : (m : ℕ) (w : Wanted) (t : Tlv) (ts : Tlvs) → t .start + t .size ≤ m → Inside m (lookedIn w ts)
+-- "no value is empty" (document 02 (iv))
+value-some : (n : ℕ) → 1 ≤ valueSize n
+unfolding valueSize
+value-some n = omega arith
+
+led-inside : (m : ℕ) (w : Wanted) (t : Tlv) (ts : Tlvs) → (t .start + t .size ≤ m) × (1 ≤ t .size) → Inside m (lookedIn w ts)
     → Inside m (lookedIn w (led t ts))
 led-inside m w t ill h k = omega arith
 led-inside m w t (filling ts) h k =
@@ -179,7 +185,8 @@ from-inside w i zero (t ∷ n ∷ s) = go (leb (valueSize n) (length s)) refl (f
         Inside (i + length (t ∷ n ∷ s)) (lookedIn w (led (record { tag = t; start = i + 2; size = valueSize n }) rest))
     go true e ih =
         let q : i + 2 + length s ≡ i + length (t ∷ n ∷ s) = omega arith in
-        led-inside (i + length (t ∷ n ∷ s)) w _ (tlvsFrom (i + 2) (valueSize n) s) (omega (arith, leb-true (valueSize n) (length s) e))
+        led-inside (i + length (t ∷ n ∷ s)) w _ (tlvsFrom (i + 2) (valueSize n) s)
+        (omega (arith, leb-true (valueSize n) (length s) e), value-some n)
         (subst (λ (m : ℕ). Inside m (lookedIn w (tlvsFrom (i + 2) (valueSize n) s))) q ih)
     go false e ih = rw (short (i + 2) (valueSize n) s (leb-false (valueSize n) (length s) e)) (omega arith)
 from-inside w i (suc n) [] = omega arith
@@ -192,3 +199,27 @@ unfolding walked
 walked-inside w s =
     let q : 0 + length s ≡ length s = omega arith in
     subst (λ (m : ℕ). Inside m (lookedIn w (tlvsFrom 0 0 s))) q (from-inside w 0 0 s)
+
+-- ---- a tag is found just where a TLV has it
+
+first-among : (a : ℕ) (ts : List Tlv) → found (firstOf (Tag a) ts) ≡ among a ts
+unfolding wants
+first-among a [] = refl
+first-among a (t ∷ ts) = go (eqb (t .tag) a) (first-among a ts)
+  where
+    go : (b : Bool) → found (firstOf (Tag a) ts) ≡ among a ts
+        → found (if b then At (t .start) (t .size) else firstOf (Tag a) ts) ≡ (if b then true else among a ts)
+    go true e = refl
+    go false e = e
+
+pub walked-tagged : (a : ℕ) (s : List ℕ) → found (walked (Tag a) s) ≡ tagged a s
+unfolding walked tagged
+walked-tagged a s = go (tlvsFrom 0 0 s)
+  where
+    go : (ts : Tlvs) → found (lookedIn (Tag a) ts) ≡ amongIn a ts
+    go ill = refl
+    go (filling ts) = first-among a ts
+
+pub none-tagged : (a : ℕ) → tagged a [] ≡ false
+unfolding tagged tlvsFrom
+none-tagged a = refl

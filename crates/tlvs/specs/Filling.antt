@@ -1,12 +1,14 @@
 -- Document 01, "The commands" (RULES 9.3): "TLVs are zero or more of: a tag octet, a length octet n and n octets, filling the rest
--- exactly."
+-- exactly." Document 02 (iv) corrects it: "the length octet is the value's length minus one, so 0 means one octet, and no value is
+-- empty." So source document 004 fills length octets in: "sizeof(tuFragParams) - 1 - ZPS_TLV_HDR_SIZE", the header being tag and
+-- length octet.
 -- Assumes nothing.
 use mathlib.Core.List.{List, [], _∷_}
 use Prim.Native.Nat.{ℕ, zero, suc, _+_}
 
 -- the octets of a value whose length octet is n
 unfoldable pub valueSize : ℕ → ℕ
-valueSize n = n
+valueSize n = n + 1
 
 -- a TLV: its tag, and where its value starts and how many octets it has
 pub record Tlv : Type 0 where

@@ -50,3 +50,16 @@ found (walks.At i n) = true
 
 unfoldable pub relays : List ℕ → Bool
 relays s = found (walked wanted.Relay s)
+
+-- whether one of the TLVs has that tag
+abbrev pub among : ℕ → List Tlv → Bool
+among a [] = false
+among a (t ∷ ts) = if eqb (t .tag) a then true else among a ts
+
+abbrev pub amongIn : ℕ → Tlvs → Bool
+amongIn a ill = false
+amongIn a (filling ts) = among a ts
+
+-- whether TLVs fill s, and one of them has that tag
+unfoldable pub tagged : ℕ → List ℕ → Bool
+tagged a s = amongIn a (tlvsOf s)

@@ -24,12 +24,11 @@ pub enum Walked {
     At(usize, usize),
 }
 
-// The bound is one more than an octet holds: callers may not lean on the length octet being the
-// size itself.
+// A length octet says one less than its value has (02 (iv)): 256 octets at most, and never none.
 fn value_size(n: u8) -> usize
     ensures { λ r. ⌜ (r ≡ valueSize n) × (r ≤ 256) ⌝ }
 {
-    n as usize
+    n as usize + 1
 }
 
 fn is_wanted(w: Wanted, tag: u8, size: usize) -> bool
