@@ -30,7 +30,7 @@ FIELDS.update({f"zbee_aps.cmd.{name}": number for name in (
     "id", "key_type", "seqno", "init_flag", "addr", "update_status", "status")})
 FIELDS.update({f"zbee_aps.cmd.{name}": digits for name in (
     "key", "dst", "src", "partner", "device", "key_hash")})
-NEWER = (4, 4)  # the version from which on Relay and TLVs have fields, and empty payloads a tag
+NEWER = (4, 4)  # from here on Relay and TLVs are compared, and tags of empty payloads
 MALFORMED = "_ws.malformed"
 NOT_READ = ["[Malformed Packet: ZigBee APS]", MALFORMED]
 TLV_FIELDS = {MALFORMED: str}

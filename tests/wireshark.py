@@ -14,13 +14,13 @@ key sequence number, the tag and the key used; and what Wireshark shows of the h
 command inside. The frame inside of a tunnel Wireshark deciphers in its place; it is also looked at
 as the router hands it on (`route`), in a network frame without security.
 
-Wireshark 4.4 and later read Relay and the TLVs of commands: then these are compared too, and TLVs
-that the bench refuses when it reads them must be malformed there. An older one doesn't, and a line
-says so before the last.
+With Wireshark 4.4 or later, which read Relay and the TLVs of commands, these are compared too, and
+TLVs that the bench refuses when it reads them must be malformed there. With an older one they are
+not, and a line says so before the last. 4.4.18 and 4.0.17 were tried.
 
 The other way round, each frame is tried with each of its octets altered in one bit, at either
 layer: Wireshark must decipher none of those, and find no key for it. Where a layer's payload is
-empty a Wireshark before 4.4 has nothing to decipher and looks at no tag; such lines say so.
+empty 4.0.17 has nothing to decipher and looks at no tag; with one before 4.4 such lines say so.
 
 One line is printed for each frame, and at last `N frames, 0 differ`. The exit code is 0, 1 where
 something differs, 2 where tshark is missing or fails.
@@ -51,7 +51,7 @@ SENT_KEY = bytes(range(16, 32))
 RELAYED = bytes.fromhex("41070804")  # a message in a Relay: Request-Key, type 4
 # Wireshark 4.4.18 reads an address behind the two masks, whether the value has one or not.
 ADDRESSED = of_octets(METHODS, KEY_METHODS[2:] + least(int(DEVICE, 16), 8))
-JOINER = tlv(ENCAPSULATION, TEST_SPECIFIC + FRAGMENTS + ADDRESSED)
+ADDRESSED_JOINER = tlv(ENCAPSULATION, TEST_SPECIFIC + FRAGMENTS + ADDRESSED)
 TAG, NETWORK, NONE = 4, 1, None
 LINK, TRANSPORT, LOAD = 0, 2, 3
 PLAIN = {"zbee_nwk.dst": 0x0000, "zbee_nwk.src": 0x1234, "zbee_nwk.radius": 30}
@@ -256,10 +256,11 @@ def joiners():
     """TLVs of a joiner for Update-Device: a name, the octets, and what Wireshark should show."""
     inside = {"supported_key_negotiation_methods": 3, "supported_secrets": 5,
               "device_eui64": DEVICE}
-    yield "a joiner's TLVs", JOINER, read_as(
+    yield "a joiner's TLVs", ADDRESSED_JOINER, read_as(
         [0x48, 0x40, 0x47, 0x41], [24, 3, 4, 9], manufacturer_specific=0x1234, value="aabb",
         node_id=1, frag_opt=2, max_buf_size=10, **inside)
-    yield "one more before them, two behind", FRAGMENTS + JOINER + TEST_SPECIFIC + FRAGMENTS, \
+    more = FRAGMENTS + ADDRESSED_JOINER + TEST_SPECIFIC + FRAGMENTS
+    yield "one more before them, two behind", more, \
         read_as([0x47, 0x48, 0x40, 0x47, 0x41, 0x40, 0x47], [4, 24, 3, 4, 9, 3, 4],
                 manufacturer_specific=[0x1234] * 2, value=["aabb"] * 2, node_id=[1] * 3,
                 frag_opt=[2] * 3, max_buf_size=[10] * 3, **inside)
@@ -301,8 +302,9 @@ def relays():
 def cut_cases(sealer):
     """TLVs that the bench refuses when it reads them, and Wireshark too."""
     own = sealer.bench.octets("write", "ack", "update", DEVICE, 0x0BEE, 1, "")
-    for name, tlvs in (("cut by an octet", JOINER[:-1]), ("cut to tag and length", JOINER[:2]),
-                       ("without a value at the end", JOINER + FRAGMENTS[:1] + b"\x00"),
+    joiner = ADDRESSED_JOINER
+    for name, tlvs in (("cut by an octet", joiner[:-1]), ("cut to tag and length", joiner[:2]),
+                       ("without a value at the end", joiner + FRAGMENTS[:1] + b"\x00"),
                        ("with its length for the length octet",
                         FRAGMENTS[:1] + bytes([len(FRAGMENTS) - 2]) + FRAGMENTS[2:])):
         read = sealer.bench.ask("read", LINK, own + tlvs)
