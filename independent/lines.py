@@ -4,7 +4,8 @@ import random
 import re
 
 WORDS = ("room", "long", "short", "form", "security", "nokey", "top", "stale", "forged", "full",
-         "command", "protection", "absent", "argument")  # document 01's numbers 1 to 14
+         "command", "protection", "absent", "argument",  # document 01's numbers 1 to 14
+         "label", "crc")                                 # document 02's 15 and 16, by (v)
 
 
 class Bad(Exception):
@@ -12,7 +13,7 @@ class Bad(Exception):
 
 
 class Refused(Exception):
-    """A refusal by its number in document 01."""
+    """A refusal by its number in document 01 or 02."""
 
     def __init__(self, number):
         super().__init__(number)
@@ -55,6 +56,15 @@ def decimal_field(most):
         if not re.fullmatch(rb"0|[1-9][0-9]*", field) or len(field) > 20 or int(field) > most:
             raise Bad
         return int(field)
+    return read
+
+
+def text_field(most):
+    """The reader of a field of any octets but tabs, most of them at most."""
+    def read(field):
+        if len(field) > most:
+            raise Bad
+        return field
     return read
 
 

@@ -1,14 +1,15 @@
 """Compares the model with published vectors and with another program."""
 
+import binascii
 import random
 import struct
 
 from .lines import Wrong, flip, ok, run_of
-from .model import aes, ccm, mmo, opening, tables
-from .published import annexc, fips197, rfc3610
+from .model import aes, ccm, labels, mmo, opening, tables
+from .published import annexc, fips197, installcodes, rfc3610
 from .vectors.desk import Desk
 
-BLOCKS, CASES, FRAMES, SEED = 1500, 1000, 300, 3610
+BLOCKS, CASES, FRAMES, CODES, SEED = 1500, 1000, 300, 1000, 3610
 
 
 def same(what, ours, theirs):
@@ -66,6 +67,35 @@ def tagless():
         sealed = ccm.seal(0, key, nonce, a, m)
         same("M = 0 sealed", sealed, ccm.seal(16, key, nonce, a, m)[:length])
         same("M = 0 opened", ccm.open(0, key, nonce, a, sealed), m)
+
+
+def install_codes():
+    """The published install codes, and the value that catalogues of CRCs give for this one; the
+    number of comparisons."""
+    same("CRC-16/X-25 of 123456789", labels.crc(b"123456789"), 0x906E)
+    for length, code, crc, key in installcodes():
+        same(f"install code of {length}, its length", len(code), length)
+        same(f"install code of {length}, CRC", labels.with_crc(code), code + crc)
+        same(f"install code of {length}, key", labels.link_key(code), key or labels.link_key(code))
+        text = labels.print_label(256, code)
+        same(f"install code of {length}, read back", labels.read_label(text)[0], code)
+    return 1 + sum(2 if key else 1 for *_, key in installcodes())
+
+
+def turned(number, bits):
+    """The number's bits in the other order."""
+    return int(f"{number:0{bits}b}"[::-1], 2)
+
+
+def crcs_beside():
+    """The CRC beside that of the standard library, whose bits stand the other way; what was
+    compared."""
+    rng = random.Random(SEED + 2)
+    for i in range(CODES):
+        octets = rng.randbytes(i % 40)
+        theirs = binascii.crc_hqx(bytes(turned(octet, 8) for octet in octets), 0xFFFF)
+        same(f"CRC {i}", labels.crc(octets), turned(theirs ^ 0xFFFF, 16))
+    return f"{CODES} CRCs agree with module binascii"
 
 
 def short_or_long(rng):
@@ -177,10 +207,10 @@ def run(arguments):
     """All comparisons, then one closing line; the exit code, or None where words are given."""
     if arguments:
         return None
-    count = published()
+    count = published() + install_codes()
     recovered_keys()
     bench_cases()
     tagless()
     print(f"selfcheck: {count} published comparisons hold; {against_package()}; "
-          f"{frames_against_package()}")
+          f"{frames_against_package()}; {crcs_beside()}")
     return 0

@@ -1,17 +1,18 @@
 """The desk of the program `bench`: one board, its stored lists, and what is lent.
 
 The bench language, "Lines", "Stale or forged", its table and the lines that document 02 brings;
-DECISIONS, "The bench language" and iii-row-numbers.
+DECISIONS, "The bench language", iii-row-numbers and v-lines.
 """
 
 from .. import lines
-from ..model import commands, mmo, opening, tables
+from ..model import commands, labels, mmo, opening, tables
 
 STORED_ROWS = 1024
 LENT = (116, 64, 64)  # at first: octets of output, addresses, floors
 LENT_MOST = (256, STORED_ROWS, STORED_ROWS)
 
 FRAME = lines.hex_field(0, 256)
+TEXT = lines.text_field(256)
 KEY = lines.hex_field(16, 16)
 ADDRESS = lines.address_field
 OCTET = lines.decimal_field(255)
@@ -48,6 +49,8 @@ class Desk:
             (b"route", 2): ((protection_field, FRAME), self.route),
             (b"hash", 1): ((FRAME,), lambda f: [mmo.digest(f)]),
             (b"keyedhash", 2): ((KEY, FRAME), self.keyed_hash),
+            (b"label", 1): ((TEXT,), labels.read_label),
+            (b"print", 1): ((FRAME,), self.print),
         }
         self.board_words = {
             (b"network", 3): ((OCTET, OCTET, KEY), self.install),
@@ -162,7 +165,7 @@ class Desk:
         """Seals an APS frame."""
         return [opening.seal_aps(self.board, self.lent[0], partner, identifier, frame)]
 
-    # ---- commands and hashes ----
+    # ---- commands, hashes and labels ----
 
     def read(self, under, frame):
         """Reads a command."""
@@ -200,6 +203,10 @@ class Desk:
         """The keyed hash."""
         lines.refuse_if(len(data) > mmo.KEYED_MOST, 2)
         return [mmo.keyed(key, data)]
+
+    def print(self, code):
+        """Prints a label; the text is answered as it stands."""
+        return [labels.print_label(self.lent[0], code).decode("ascii")]
 
 
 class Stale(Exception):

@@ -1,7 +1,7 @@
 """The script of `bench`: the desk itself, lines that are bad, and how lines end.
 
 The bench language, "Lines"; the points of docs/DECISIONS.md, "The bench
-language", are named in the script's comments.
+language", are named in the script's comments, v-lines beside them.
 """
 
 from ..lines import address, ok, run_of
@@ -14,6 +14,8 @@ A, K, F = address(OTHER), key(1).hex(), "0800fcff00001e0155"
 SWITCH_KEY = "410709" + "05"
 INNER = "210520" + "00" * 17
 TUNNEL = "41070e" + "ddccbbaa004b1200" + INNER
+CODE, LABEL = "83fed3407a93", "83 FE D3 40 7A 93 2B 70"
+LINK_KEY = "cd4fa064773f46941ec986c09963d1a8"
 HANDED_ON = ok(A, INNER, "2105", "20" + "00" * 12, "00", "00" * 4)
 
 WRONG_ADDRESSES = ("", A[1:], A + "0", A[2:], A + "00", A[:-1] + "g", "0x" + A[2:], " " + A[1:],
@@ -33,19 +35,24 @@ WRONG_SHORTS = ("", "65536", "065535", "00", "-1", "+1", "64 ", " 64", "64\r", "
 WRONG_PROTECTIONS = ("None", "NONE", "non", "nones", "256", "01", "00", "", "-", "-1", " none",
                      "none ", "none\r", "none\0", "1000", "é")
 
-SAMPLES = {"A": A, "K": K, "F": F, "B": "1", "C": "7", "S": "64", "T": "0", "P": ""}
+WRONG_TEXTS = ("0" * 257, " " * 257, LABEL.ljust(257), LABEL.rjust(257, "0"), "é" * 129,
+               "\0" * 257, "\r" * 300, LABEL * 100, LABEL + "\t", "\t" + LABEL, "\t")
+
+SAMPLES = {"A": A, "K": K, "F": F, "B": "1", "C": "7", "S": "64", "T": "0", "P": "", "X": LABEL}
 WRONG = {"A": WRONG_ADDRESSES, "K": WRONG_KEYS, "F": WRONG_FRAMES, "B": WRONG_OCTETS,
-         "C": WRONG_COUNTERS, "S": WRONG_SHORTS, "T": WRONG_PROTECTIONS, "P": WRONG_FRAMES}
+         "C": WRONG_COUNTERS, "S": WRONG_SHORTS, "T": WRONG_PROTECTIONS, "P": WRONG_FRAMES,
+         "X": WRONG_TEXTS}
 
 FORMS = (("board", "A"), ("board", "AC"), ("lend", "SSS"), ("network", "BBK"), ("switch", "B"),
          ("link", "AK"), ("unlink", "A"), ("forget", "BA"), ("open", "F"), ("openaps", "AF"),
          ("seal", "F"), ("sealaps", "ABF"), ("read", "TF"), ("tlv", "TBF"), ("route", "TF"),
-         ("hash", "F"), ("keyedhash", "KF"), ("state", ""), ("heard", "B"), ("links", ""))
+         ("hash", "F"), ("keyedhash", "KF"), ("state", ""), ("heard", "B"), ("links", ""),
+         ("label", "X"), ("print", "F"))
 COMMANDS = (("transport1", "PBAA"), ("transport4", "PAAP"), ("transport2", "PABP"),
             ("transport3", "PABP"), ("update", "ASBP"), ("remove", "A"), ("request2", "A"),
             ("request4", ""), ("switchkey", "B"), ("tunnel", "AP"), ("verify", "BAP"),
             ("confirm", "BBA"), ("down", "P"), ("up", "P"))
-BOARDLESS = ("board", "lend", "read", "tlv", "route", "hash", "keyedhash")
+BOARDLESS = ("board", "lend", "read", "tlv", "route", "hash", "keyedhash", "label", "print")
 
 
 def good_fields(kinds):
@@ -79,6 +86,7 @@ def add_without_board(bench):
     bench.add("hash", "", expect=ok(mmo.digest(b"")))
     bench.add("keyedhash", WELL_KNOWN, "00", expect=ok(mmo.keyed(WELL_KNOWN, b"\0")))
     bench.add("keyedhash", WELL_KNOWN, bytes(241), expect=no(2))
+    add_labels_without_board(bench)
     bench.lend()
     bench.group("DECISIONS, board-refused: a refused board is none, and so is a bad one")
     for fields in ((address(0),), (address(ALL_ONES),), (address(0), 5), (address(ALL_ONES), TOP)):
@@ -87,6 +95,24 @@ def add_without_board(bench):
     bench.add("board", A[1:], expect="bad")
     bench.add("board", A, TOP + 1, expect="bad")
     bench.add("links", expect="bad")
+
+
+def add_labels_without_board(bench):
+    """Labels before any board."""
+    bench.group("labels need none either")
+    for text, expect in ((LABEL, ok(CODE, LINK_KEY)), (LABEL.lower(), ok(CODE, LINK_KEY)),
+                         (LABEL.replace(" ", ""), ok(CODE, LINK_KEY)), ("", no(15)),
+                         (LABEL + " ", no(15)), (LABEL[:-2] + "71", no(16)), ("0" * 256, no(15)),
+                         ("0" * 257, "bad"), (LABEL + "\t", "bad")):
+        bench.raw("label\t" + text, expect)
+    bench.add("print", CODE, expect=ok(LABEL))
+    for code, number in ((CODE + "00", 15), ("", 15), ("00" * 256, 15)):
+        bench.add("print", code, expect=no(number))
+    bench.add("print", "00" * 257, expect="bad")
+    for room, expect in ((0, no(1)), (22, no(1)), (23, ok(LABEL)), (256, ok(LABEL))):
+        bench.lend(room)
+        bench.add("print", CODE, expect=expect)
+        bench.add("print", CODE + "00", expect=no(15))
 
 
 def add_example(bench):
@@ -250,6 +276,8 @@ def add_overlong(bench):
     bench.add("tlv", "none", 255, longest, expect=ok(""))
     bench.add("route", "none", longest, expect=no(2))
     bench.add("hash", longest, expect=ok(mmo.digest(longest)))
+    bench.add("print", longest, expect=no(15))
+    bench.raw(b"label\t" + b"\xff" * 256, no(15))
 
 
 def add_fine(bench):
@@ -267,6 +295,8 @@ def add_fine(bench):
     bench.raw("openaps\t" + A + "\t" + aps_frame(key(1), 0, OTHER, 4, b"\xab").hex().upper(),
               opened(OTHER, 0, COMMAND_HEADER + b"\xab"))
     bench.raw("route\tnone\t" + TUNNEL.upper(), HANDED_ON)
+    bench.raw("print\t" + CODE.upper(), ok(LABEL))
+    bench.raw("label\t" + LABEL.lower(), ok(CODE, LINK_KEY))
     bench.group("DECISIONS, empty-hex: empty hex is an empty field, read and written")
     bench.raw("hash\t", ok(mmo.digest(b"")))
     bench.raw(f"keyedhash\t{K}\t", ok(mmo.keyed(key(1), b"")))
@@ -277,6 +307,9 @@ def add_fine(bench):
     bench.raw("read\tnone\t", no(3))
     bench.raw("tlv\tnone\t0\t", "ok\t")
     bench.raw("route\tnone\t", no(3))
+    bench.raw("print\t", no(15))
+    bench.group("DECISIONS, v-lines: an empty text is a field like another")
+    bench.raw("label\t", no(15))
 
 
 def add_bad_lines(bench):

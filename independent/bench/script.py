@@ -2,7 +2,7 @@
 
 Document 01, the table of refusals and their orders: which line can be refused with which number;
 document 02 (i) and the bench language for `route`, 02 (iii) and that language for `heard`; document
-02 (iv) for TLVs, which are walked here in another way than the model's.
+02 (iv) for TLVs and 02 (v) for labels, which are walked here in another way than the model's.
 """
 
 from ..lines import ok, refused, sure
@@ -13,9 +13,11 @@ from .desk import LENT, Desk
 from .halls import LENGTHS, REFUSED, add_halls
 from .joiner import add_joiner
 from .keys import add_keys
+from .labels import add_labels
 from .line_forms import add_bad_lines, add_desk, add_fine, add_last, add_without_board
 from .network import add_network
 from .play import add_play
+from .printing import add_printing
 from .tlvs import RELAYS, add_length_octets
 from .tools import Bench
 from .tunnels import add_tunnels
@@ -41,14 +43,17 @@ REFUSALS = {  # every number that a line can be refused with
     "state": set(),
     "heard": {1},
     "links": set(),
+    "label": {15, 16},
+    "print": {1, 15},
 }
 JUDGING = ("network", "forget", "open", "heard")  # the lines that judge the lists
-NOT_JUDGING = ("switch", "link", "unlink", "openaps", "seal", "sealaps", "write", "state", "links")
+NOT_JUDGING = ("switch", "link", "unlink", "openaps", "seal", "sealaps", "write", "state", "links",
+               "label", "print")
 TLVS_FROM = {  # identifier, and type where it has one; the place of TLVs in a frame
     "transport4": (b"\x05\x04", 36), "transport2": (b"\x05\x02", 29),
     "transport3": (b"\x05\x03", 29), "update": (b"\x06", 14), "down": (b"\x11", 3),
     "up": (b"\x12", 3)}
-LEAST_LINES, MOST_LINES = 8000, 11500
+LEAST_LINES, MOST_LINES = 10000, 14500
 
 
 def outcomes(bench):
@@ -204,6 +209,95 @@ def check_values(bench):
     sure(met == {"refused", 0, 1, 2}, "values are not asked for", met)
 
 
+# ---- labels ------------------------------------------------------------------------------------
+
+DIVISOR = 0x11021  # x^16 + x^12 + x^5 + 1
+OF_LABELS = (8, 10, 14, 18)
+
+
+def walked_label(text):
+    """The octets that a text spells, or None. It is walked character by character, with the digit
+    that waits for a second one, and whether a separator may come."""
+    octets, waiting, gap = [], None, False
+    for character in text:
+        digit = b"00112233445566778899aAbBcCdDeEfF".find(character) // 2
+        if character in b" -" and gap:
+            gap = False
+        elif digit < 0:
+            return None
+        elif waiting is None:
+            waiting, gap = digit, False
+        else:
+            octets.append(16 * waiting + digit)
+            waiting, gap = None, True
+    return bytes(octets) if waiting is None and (gap or not text) else None
+
+
+def divides(octets):
+    """Whether the last two octets are the CRC of the others: as one number, each octet's lowest bit
+    first, with the first 16 bits and the last 16 turned over, they are a multiple."""
+    bits = 8 * len(octets)
+    number = int("".join(f"{octet:08b}"[::-1] for octet in octets), 2)
+    number ^= 0xFFFF << bits - 16 ^ 0xFFFF
+    for place in reversed(range(16, bits)):
+        if number >> place & 1:
+            number ^= DIVISOR << place - 16
+    return number == 0
+
+
+def label_verdict(desk, octets):
+    """The answer to a text that spells these octets, or none; the desk hashes them."""
+    if octets is None or len(octets) not in OF_LABELS:
+        return refused(15)
+    if not divides(octets):
+        return refused(16)
+    return ok(octets[:-2], desk.answer(b"hash\t" + octets.hex().encode("ascii")).split("\t")[1])
+
+
+def check_labels(bench):
+    """Every label is answered as the other walk and the division have it. Texts that spell nothing
+    are shown, and every count of octets from 0 to 20, good and with a wrong CRC where it can be."""
+    desk, met = Desk(), set()
+    for line, answer in bench.given:
+        word, *fields = line.split(b"\t")
+        if word == b"label" and answer != "bad":
+            octets = walked_label(fields[0])
+            verdict = label_verdict(desk, octets)
+            sure(answer == verdict, "a label is read otherwise", line, verdict)
+            kind, number, *_ = answer.split("\t")
+            met.add((None if octets is None else len(octets), "ok" if kind == "ok" else number))
+    wanted_labels = {(count, kind) for count in range(21)
+                     for kind in (("ok", "16") if count in OF_LABELS else ("15",))}
+    missed = (wanted_labels | {(None, "15")}) - met
+    sure(not missed, "labels are not shown", missed)
+
+
+def check_prints(bench):
+    """A code is printed exactly where its length and the lent output allow it, 15 before 1, and
+    what is printed spells the code and its CRC, in capitals with one space in every gap."""
+    room, met = LENT[0], set()
+    for line, answer in bench.given:
+        word, *fields = line.split(b"\t")
+        if word == b"lend" and answer == "ok":
+            room = int(fields[0])
+        if word != b"print" or answer == "bad":
+            continue
+        code = bytes.fromhex(fields[0].decode("ascii"))
+        fits = len(code) + 2 in OF_LABELS
+        if not fits or room < 3 * len(code) + 5:
+            sure(answer == refused(1 if fits else 15), "a code is refused otherwise", line, room)
+        else:
+            text = answer.split("\t")[1]
+            octets = walked_label(text.encode("ascii"))
+            sure(octets is not None and octets[:-2] == code and divides(octets),
+                 "a printed label is read back otherwise", line, text)
+            sure(text == octets.hex(" ").upper(), "a label is printed otherwise", line, text)
+        met.add((len(code), room - 3 * len(code) - 5 if fits else None))
+    wanted_prints = {(count - 2, over) for count in OF_LABELS for over in (-2, -1, 0, 1)}
+    wanted_prints |= {(count, None) for count in range(21) if count + 2 not in OF_LABELS}
+    sure(wanted_prints <= met, "prints are not shown", wanted_prints - met)
+
+
 # ---- the whole ---------------------------------------------------------------------------------
 
 def check_shares(bench):
@@ -223,9 +317,9 @@ def make_script():
     bench = Bench()
     for add in (add_without_board, add_desk, add_bad_lines, add_fine, add_keys, add_halls,
                 add_network, add_aps, add_commands, add_length_octets, add_joiner, add_tunnels,
-                add_play, add_last):
+                add_play, add_labels, add_printing, add_last):
         add(bench)
     for check in (check_outcomes, check_halls, check_commands, check_routing, check_carried,
-                  check_values, check_shares):
+                  check_values, check_labels, check_prints, check_shares):
         check(bench)
     return bench

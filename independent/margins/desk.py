@@ -8,7 +8,7 @@ from dataclasses import dataclass, field
 
 from .. import lines
 from ..bench.desk import ADDRESS, OCTET, protection, protection_field
-from ..model import commands, mmo, opening, tables
+from ..model import commands, labels, mmo, opening, tables
 
 FRAME = lines.hex_field(0, 512)
 SIZE = lines.decimal_field(256)
@@ -91,6 +91,11 @@ def writer(word, acknowledged):
     return write_command
 
 
+def print_label(lent, code):
+    """Prints the label of a code."""
+    return [lent.put(labels.print_label(len(lent.output), code))]
+
+
 # ---- what they leave, as fields behind the output ----------------------------------------------
 
 def changed_rows(lent):
@@ -114,6 +119,11 @@ def outgoing(lent):
 def aps_counter(lent):
     """The APS counter."""
     return [lent.board.aps]
+
+
+def nothing_more(_):
+    """Nothing: the request is not handed the board."""
+    return []
 
 
 # ---- lines -------------------------------------------------------------------------------------
@@ -145,6 +155,15 @@ def hashed(digest):
     return act
 
 
+def read_label(text):
+    """The action that answers with a label's code and key, zeros where it is refused."""
+    try:
+        code, key = labels.read_label(text)
+    except lines.Refused as refusal:
+        return lines.refused(refusal.number) + shown(bytes(labels.HELD), bytes(16))
+    return lines.ok(len(code), code.ljust(labels.HELD, b"\0"), key)
+
+
 def asked(question):
     """The action that answers a question about a command, with nothing where it is refused."""
     def act(under, *arguments):
@@ -174,6 +193,8 @@ WORDS = {
     b"down": ((SIZE, FRAME), on_board(writer("down", True), aps_counter)),
     b"hash": ((FRAME,), hashed(mmo.digest)),
     b"keyedhash": ((FRAME,), hashed(lambda data: mmo.keyed(LINK_KEYS[0], data))),
+    b"print": ((SIZE, FRAME), on_board(print_label, nothing_more)),
+    b"label": ((FRAME,), read_label),
     b"key": part(commands.KEY),
     b"digest": part(commands.HASH),
     b"inner": part(commands.INNER),

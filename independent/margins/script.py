@@ -4,10 +4,13 @@ Every line has the answer that its author expects. Where a part of the script sa
 name of an entry in docs/DECISIONS.md follows.
 """
 
-from ..lines import lines_of, sure
+from ..bench.labels import CODES
+from ..lines import lines_of, ok, sure
 from .commands import COMMANDS, FRONT, INNER_PARTS, PARTS, add_parts, add_values, add_writing
+from .desk import Desk
 from .halls import LENGTHS, REFUSED_LISTS, add_halls
 from .hashes import add_hashes
+from .labels import add_labels
 from .opening import (add_open, add_open_aps, add_open_aps_forged, add_open_aps_refusals,
                       add_open_forged, add_open_refusals)
 from .others import add_bad, add_chance, add_fine, add_hall_chance
@@ -22,7 +25,8 @@ def make_script():
     script = Margins()
     for add in (add_open, add_open_refusals, add_open_forged, add_halls, add_open_aps,
                 add_open_aps_refusals, add_open_aps_forged, add_seal, add_seal_aps, add_writing,
-                add_parts, add_values, add_hashes, add_chance, add_hall_chance, add_bad, add_fine):
+                add_parts, add_values, add_hashes, add_chance, add_hall_chance, add_bad, add_labels,
+                add_fine):
         add(script)
     answered = {n for n, line in enumerate(script.lines, 1) if line and not line.startswith(b"#")}
     sure(set(script.expected) == answered, "lines without an expected answer",
@@ -122,6 +126,49 @@ def check_parts(given):
              "a refused hash is not zeros", word)
 
 
+def check_prints(given):
+    """A refusal leaves an output of EE, and a label EE behind it; read back, it gives the code.
+    Every length of code is met with an output just too short, just long enough and longer."""
+    desk, met = Desk(), set()
+    for (word, *fields), (kind, *answer) in given:
+        if word != "print" or kind == "bad":
+            continue
+        room, code = int(fields[0]), fields[1].lower()
+        length = len(code) // 2
+        if kind == "refused":
+            sure(answer[2:] == ["ee" * room], "a refusal changes the output", fields)
+        else:
+            text, behind = answer[1][:2 * int(answer[0])], answer[1][2 * int(answer[0]):]
+            sure(len(answer[1]) == 2 * room and behind == "ee" * (len(behind) // 2),
+                 "the output behind the label is not as it was", fields)
+            read = desk.answer(b"label\t" + text.encode("ascii")).split("\t")
+            sure(read[:3] == ["ok", str(length), code.ljust(32, "0")],
+                 "a printed label is read back otherwise", fields, read)
+        met.add((length, room - 3 * length - 5, answer[0] if kind == "refused" else "ok"))
+    wanted = {(length, over, "ok" if over >= 0 else "1") for length in CODES
+              for over in (-2, -1, 0, 1, 2)}
+    sure(wanted <= met, "prints are not shown", wanted - met)
+    sure({length for length, _, number in met if number == "15"}.isdisjoint(CODES),
+         "15 for a code that can be printed")
+
+
+def check_labels(given):
+    """Beside a refusal code and key are zeros; otherwise the code stands at the front of 16 octets,
+    and the key is the hash of code and CRC, as the text spells them."""
+    desk = Desk()
+    for (word, *fields), (kind, *answer) in given:
+        if word != "label" or kind == "bad":
+            continue
+        if kind == "refused":
+            sure(answer[2:] == ["00" * 16] * 2, "a refused label is not zeros", fields)
+            continue
+        spelled = bytes.fromhex(fields[0]).decode("ascii").replace("-", "").replace(" ", "").lower()
+        sure(answer[:2] == [str(len(spelled) // 2 - 2), spelled[:-4].ljust(32, "0")],
+             "another code", fields)
+        hashed = desk.answer(b"hash\t" + spelled.encode("ascii"))
+        sure(hashed == ok(answer[2]), "another key", fields)
+
+
 def check(files):
     """What the answers must show."""
     given = list(pairs(files))
@@ -129,3 +176,5 @@ def check(files):
     check_outputs(given)
     check_halls(given)
     check_parts(given)
+    check_prints(given)
+    check_labels(given)

@@ -8,7 +8,7 @@ from dataclasses import dataclass
 from ..lines import Script, ok, refused
 
 ROOMS = (0, 1, 107, 108, 115, 116, 117, 200, 256)
-LEAST_LINES, MOST_LINES = 800, 1600
+LEAST_LINES, MOST_LINES = 1600, 2600
 
 # The board of every line.
 OWN, OUTGOING, APS_COUNTER = 2, 7, 255
@@ -34,6 +34,8 @@ REFUSALS = {  # every number that a line can be refused with on this board
     "down": {1, 2, 11},
     "hash": {2},
     "keyedhash": {2},
+    "print": {1, 15},
+    "label": {15, 16},
     "key": set(), "digest": set(), "inner": set(), "tlvs": set(), "value": set(),
     "header": set(), "auxiliary": set(), "payload": set(), "tag": set(),
 }

@@ -1,4 +1,5 @@
-"""The published vectors that the model is held to: FIPS 197, RFC 3610 and Annex C.3 to C.6."""
+"""The published vectors that the model is held to: FIPS 197, RFC 3610, Annex C.3 to C.6 and
+install codes."""
 
 from pathlib import Path
 
@@ -25,3 +26,9 @@ def annexc():
     """Rows of clause, word, the word's fields as text, the published octets."""
     return [(clause, word, fields, bytes.fromhex(result))
             for clause, word, *fields, result in table("annexc.tsv")]
+
+
+def installcodes():
+    """Rows of length, code, CRC as printed, link key, which may be empty."""
+    return [(int(length), *map(bytes.fromhex, rest))
+            for length, *rest in table("installcodes.tsv")]

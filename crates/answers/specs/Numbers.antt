@@ -1,8 +1,9 @@
--- Document 01's table of refusals (RULES 1.5): the number of each; and what an answer tells, in these numbers.
+-- Document 01's table of refusals, and those of document 02 (RULES 1.5): the number of each; and what an answer tells, in these
+-- numbers.
 -- Assumes nothing.
 use Prim.Native.Nat.{ℕ}
 use Rattle.answers.specs.declared.Refusal.{Refusal}
-use Rattle.answers.specs.declared.Refusal.the-variants.{Room, Long, Short, Form, Security, NoKey, Top, Stale, Forged, Full, Command, Protection, Absent, Argument}
+use Rattle.answers.specs.declared.Refusal.the-variants.{Room, Long, Short, Form, Security, NoKey, Top, Stale, Forged, Full, Command, Protection, Absent, Argument, Label, Crc}
 use Rattle.answers.specs.declared.Outcome.{Outcome}
 use Rattle.answers.specs.declared.Outcome.the-variants.{Done, Refused}
 use Rattle.answers.specs.declared.Guard.{Guard}
@@ -29,6 +30,9 @@ numberOf Command = 11
 numberOf Protection = 12
 numberOf Absent = 13
 numberOf Argument = 14
+-- 02 (v): "Wrong digits or length: 15. CRC wrong: 16."
+numberOf Label = 15
+numberOf Crc = 16
 
 -- what a request that answers no value tells
 pub data Told : Type 0 where

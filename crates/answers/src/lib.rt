@@ -1,8 +1,8 @@
-// The refusals and the protections of document 01, each with its number there.
+// The refusals of documents 01 and 02, each with its number there, and the protections.
 ghost use mathlib.Core.Path.{_≡_};
 ghost use Rattle.answers.specs.Numbers.{numberOf};
 
-// The fourteen refusals, in the order of 01's table.
+// The refusals in the order of their numbers: the fourteen of 01's table, then those that 02 brings.
 pub enum Refusal {
     Room,
     Long,
@@ -18,6 +18,8 @@ pub enum Refusal {
     Protection,
     Absent,
     Argument,
+    Label,
+    Crc,
 }
 
 // What protected a frame: nothing, or a key, named by its identifier.
@@ -50,7 +52,7 @@ pub enum Written {
     Refused(Refusal),
 }
 
-// The refusal's number in 01's table.
+// The refusal's number.
 pub fn number(r: Refusal) -> u8
     ensures { λ n. ⌜ n ≡ numberOf r ⌝ }
 {
@@ -69,5 +71,7 @@ pub fn number(r: Refusal) -> u8
         Refusal::Protection => 12,
         Refusal::Absent => 13,
         Refusal::Argument => 14,
+        Refusal::Label => 15,
+        Refusal::Crc => 16,
     }
 }

@@ -14,6 +14,7 @@ pub use decimal::Number;
 pub use decimal::number_of;
 pub use decimal::put_decimal;
 pub use digits::all_digits;
+pub use digits::digit;
 pub use fields::count;
 pub use fields::field;
 pub use fields::which;

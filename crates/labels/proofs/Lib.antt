@@ -1,0 +1,5 @@
+pub mod Crcs
+pub mod Texts
+pub mod Lengths
+pub mod Judging
+pub mod Prints
