@@ -42,6 +42,8 @@ pub enum Alone {
     Hash,
     KeyedHash,
     Route(Guard),
+    Label,
+    Print,
 }
 
 // A request, its key or hash, and its other octets; none where it has none.
@@ -75,8 +77,22 @@ fn asked_by(write: bool, w: usize, line: &[u8], form: &[u8]) -> Asked {
     Asked {
         request: request_by(write, w, line, form),
         key: octets_by(line, form, b"Kkh"),
-        frame: octets_by(line, form, b"Fti"),
+        frame: frame_by(line, form),
     }
+}
+
+// A label's text stands in its line as it is, all other octets in hex.
+fn frame_by(line: &[u8], form: &[u8]) -> Frame {
+    if octets::same(form, b".X") {
+        return text_of(text::field(line, 1));
+    }
+    octets_by(line, form, b"Fti")
+}
+
+fn text_of(s: &[u8]) -> Frame {
+    let mut octets = [0u8; 256];
+    octets::paste_at(&mut octets, 0, s);
+    Frame { n: s.len(), octets }
 }
 
 fn octets_by(line: &[u8], form: &[u8], letters: &[u8]) -> Frame {
@@ -128,7 +144,9 @@ fn alone_of(w: usize, v: [u64; 8]) -> Alone {
         4 => Alone::Tlv(guard_of(v[1]), (v[2] % 256) as u8),
         5 => Alone::Hash,
         6 => Alone::KeyedHash,
-        _ => Alone::Route(guard_of(v[1])),
+        7 => Alone::Route(guard_of(v[1])),
+        8 => Alone::Label,
+        _ => Alone::Print,
     }
 }
 

@@ -2,7 +2,7 @@
 // has a letter for each field, as `lines::kind_of` reads them; a dot is the line's word.
 
 // Those before `board` ask for a board. `write` has a form for each command.
-pub const REQUESTS: [u8; 197] = *b"network\t.BBK\t\
+pub const REQUESTS: [u8; 215] = *b"network\t.BBK\t\
     switch\t.B\t\
     link\t.AK\t\
     unlink\t.A\t\
@@ -21,7 +21,9 @@ pub const REQUESTS: [u8; 197] = *b"network\t.BBK\t\
     tlv\t.TBF\t\
     hash\t.F\t\
     keyedhash\t.KF\t\
-    route\t.TF";
+    route\t.TF\t\
+    label\t.X\t\
+    print\t.F";
 
 // How many ask for a board.
 pub const ON_BOARD: usize = 12;

@@ -12,6 +12,7 @@ mod frame;
 mod hashes;
 mod input;
 mod keys;
+mod label_lines;
 mod making;
 mod opening;
 mod requests;

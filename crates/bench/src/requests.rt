@@ -17,6 +17,7 @@ use crate::desk::with_lists;
 use crate::frame::Frame;
 use crate::hashes;
 use crate::keys;
+use crate::label_lines;
 use crate::making;
 use crate::opening;
 use crate::routing;
@@ -70,6 +71,8 @@ fn on_board(r: OnBoard, key: Frame, f: Frame, b: Board, lists: Lists, lent: Lent
 }
 
 fn without_board(r: Alone, key: Frame, f: Frame, desk: Desk) -> Reply {
+    let lent = desk.lent;
+    let octets = lent.room;
     match r {
         Alone::Board(own, counter) => making::make(own, counter, desk),
         Alone::Lend(room, rows, tops) => making::lend(room, rows, tops, desk),
@@ -78,5 +81,7 @@ fn without_board(r: Alone, key: Frame, f: Frame, desk: Desk) -> Reply {
         Alone::Hash => reply_same(hashes::hash(f), desk),
         Alone::KeyedHash => reply_same(hashes::keyed_hash(key, f), desk),
         Alone::Route(guard) => reply_same(routing::route(guard, f), desk),
+        Alone::Label => reply_same(label_lines::label(f), desk),
+        Alone::Print => reply_same(label_lines::print(f, octets), desk),
     }
 }

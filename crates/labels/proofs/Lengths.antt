@@ -15,10 +15,7 @@ use Rattle.labels.specs.declared.spelling.Next.{Next}
 use Rattle.labels.specs.declared.spelling.Next.the-variants.{Octet, Digit, Gap, Wrong}
 use Rattle.labels.specs.Codes.{codeLength}
 use Rattle.labels.specs.Reading.{separator, hexDigit, spellsOn, digitsIn}
-use Rattle.labels.proofs.Texts.{digit-separator}
-
-never : {A : Type 0} → _≡_ {A = Bool} false true → A
-never e = let z : _≡_ {A = ℕ} 0 1 = cc in absurd (omega arith)
+use Rattle.labels.proofs.Texts.{never, digit-separator}
 
 pub code-most : (n : ℕ) → codeLength n ≡ true → n ≤ 16
 unfolding codeLength

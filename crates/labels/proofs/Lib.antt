@@ -3,3 +3,7 @@ pub mod Texts
 pub mod Lengths
 pub mod Judging
 pub mod Prints
+pub mod Styles
+pub mod ReadBack
+pub mod OneOctet
+pub mod One

@@ -16,41 +16,41 @@ use Rattle.labels.specs.Codes.{withCrc}
 use Rattle.labels.specs.Spelling.{capital, digitIn, behind, inPrint}
 use Rattle.labels.specs.Printing.{asPrinted, labelText}
 
-length-behind : (i : ℕ) (s : List ℕ) → length (behind asPrinted i s) ≡ 3 * length s
+length-behind : (s : List ℕ) → length (behind asPrinted s) ≡ 3 * length s
 unfolding behind
-length-behind i [] = refl
-length-behind i (x ∷ s) = omega (arith, length-behind (suc i) s)
+length-behind [] = refl
+length-behind (x ∷ s) = omega (arith, length-behind s)
 
 pub length-print : (s : List ℕ) → length (inPrint asPrinted s) ≡ 3 * length s - 1
 unfolding inPrint
 length-print [] = refl
-length-print (x ∷ s) = omega (arith, length-behind 1 s)
+length-print (x ∷ s) = omega (arith, length-behind s)
 
 -- place j of the three of octet k
-placed : (i : ℕ) (s : List ℕ) (k j x : ℕ) → k < length s → getD (behind asPrinted 0 (getD s k 0 ∷ [])) j 0 ≡ x → j < 3
-    → getD (behind asPrinted i s) (3 * k + j) 0 ≡ x
+placed : (s : List ℕ) (k j x : ℕ) → k < length s → getD (behind asPrinted (getD s k 0 ∷ [])) j 0 ≡ x → j < 3
+    → getD (behind asPrinted s) (3 * k + j) 0 ≡ x
 unfolding behind
-placed i [] k j x h e l = absurd (not-suc-le-zero h)
-placed i (y ∷ s) zero zero x h e l = e
-placed i (y ∷ s) zero (suc zero) x h e l = e
-placed i (y ∷ s) zero (suc (suc zero)) x h e l = e
-placed i (y ∷ s) zero (suc (suc (suc j))) x h e l = absurd (omega arith)
-placed i (y ∷ s) (suc k) j x h e l =
+placed [] k j x h e l = absurd (not-suc-le-zero h)
+placed (y ∷ s) zero zero x h e l = e
+placed (y ∷ s) zero (suc zero) x h e l = e
+placed (y ∷ s) zero (suc (suc zero)) x h e l = e
+placed (y ∷ s) zero (suc (suc (suc j))) x h e l = absurd (omega arith)
+placed (y ∷ s) (suc k) j x h e l =
     let n : 3 * suc k + j ≡ suc (suc (suc (3 * k + j))) = omega arith in
-    rw n (placed (suc i) s k j x (le-of-suc-le-suc h) e l)
+    rw n (placed s k j x (le-of-suc-le-suc h) e l)
 
 -- in front of the text, a space would make all octets alike
-print-behind : (s : List ℕ) (k : ℕ) → 1 ≤ k → k < 3 * length s → getD (inPrint asPrinted s) (k - 1) 0 ≡ getD (behind asPrinted 0 s) k 0
+print-behind : (s : List ℕ) (k : ℕ) → 1 ≤ k → k < 3 * length s → getD (inPrint asPrinted s) (k - 1) 0 ≡ getD (behind asPrinted s) k 0
 unfolding inPrint behind
 print-behind [] k h l = absurd (omega arith)
 print-behind (x ∷ s) zero h l = absurd (omega arith)
 print-behind (x ∷ s) (suc k) h l = let e : suc k - 1 ≡ k = omega arith in rw e
 
 module _ (s : List ℕ) (k : ℕ) (h : 1 ≤ k) (l : k < 3 * length s) where
-  there : (j x : ℕ) → k % 3 ≡ j → j < 3 → getD (behind asPrinted 0 (getD s (k / 3) 0 ∷ [])) j 0 ≡ x → getD (inPrint asPrinted s) (k - 1) 0 ≡ x
+  there : (j x : ℕ) → k % 3 ≡ j → j < 3 → getD (behind asPrinted (getD s (k / 3) 0 ∷ [])) j 0 ≡ x → getD (inPrint asPrinted s) (k - 1) 0 ≡ x
   there j x r b e =
       let n : k ≡ 3 * (k / 3) + j = omega arith in
-      print-behind s k h l ∙ ap (λ (m : ℕ). getD (behind asPrinted 0 s) m 0) n ∙ placed 0 s (k / 3) j x (omega arith) e b
+      print-behind s k h l ∙ ap (λ (m : ℕ). getD (behind asPrinted s) m 0) n ∙ placed s (k / 3) j x (omega arith) e b
 
   pub space-there : k % 3 ≡ 0 → getD (inPrint asPrinted s) (k - 1) 0 ≡ 0x20
   unfolding behind

@@ -18,6 +18,9 @@ use Rattle.labels.specs.declared.spelling.Next.{Next}
 use Rattle.labels.specs.declared.spelling.Next.the-variants.{Octet, Digit, Gap, Wrong}
 use Rattle.labels.specs.Reading.{separator, hexDigit, spellsOn, digitsIn}
 
+pub never : {A : Type 0} → _≡_ {A = Bool} false true → A
+never e = let z : _≡_ {A = ℕ} 0 1 = cc in absurd (omega arith)
+
 -- neither a space nor a hyphen is a digit
 pub separator-digit : (c : ℕ) → separator c ≡ true → hexDigit c ≡ false
 unfolding separator hexDigit digitOf
@@ -34,7 +37,7 @@ pub digit-separator : (c : ℕ) → hexDigit c ≡ true → separator c ≡ fals
 digit-separator c e = go (separator c) refl
   where
     go : (t : Bool) → separator c ≡ t → separator c ≡ false
-    go true q = let z : _≡_ {A = Bool} true false = sym e ∙ separator-digit c q in cc
+    go true q = never (sym (separator-digit c q) ∙ e)
     go false q = q
 
 -- ---- what is left spells on

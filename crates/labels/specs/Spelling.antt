@@ -32,12 +32,16 @@ pub record Style : Type 0 where
   pub high : ℕ → Case
   pub low : ℕ → Case
 
--- the octets s behind others, the first of s being octet i
-unfoldable pub behind : Style → ℕ → List ℕ → List ℕ
-behind p i [] = []
-behind p i (x ∷ s) = gapText (p .gap i) ++ (digitIn (p .high i) (x / 16) ∷ digitIn (p .low i) (x % 16) ∷ behind p (suc i) s)
+-- the choices from octet 1 on
+abbrev pub later : Style → Style
+later p = record { gap = λ i. p .gap (suc i); high = λ i. p .high (suc i); low = λ i. p .low (suc i) }
+
+-- octets that stand behind others, each behind its gap
+unfoldable pub behind : Style → List ℕ → List ℕ
+behind p [] = []
+behind p (x ∷ s) = gapText (p .gap 0) ++ (digitIn (p .high 0) (x / 16) ∷ digitIn (p .low 0) (x % 16) ∷ behind (later p) s)
 
 -- the octets s in print
 unfoldable pub inPrint : Style → List ℕ → List ℕ
 inPrint p [] = []
-inPrint p (x ∷ s) = digitIn (p .high 0) (x / 16) ∷ digitIn (p .low 0) (x % 16) ∷ behind p 1 s
+inPrint p (x ∷ s) = digitIn (p .high 0) (x / 16) ∷ digitIn (p .low 0) (x % 16) ∷ behind (later p) s

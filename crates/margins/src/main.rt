@@ -6,6 +6,7 @@
 mod answer;
 mod hashes;
 mod input;
+mod label_lines;
 mod lent;
 mod opening;
 mod parts;

@@ -1,6 +1,7 @@
 // Which request a line is, and the form of each.
 use crate::answer::bad;
 use crate::hashes;
+use crate::label_lines;
 use crate::opening;
 use crate::parts;
 use crate::read::Fields;
@@ -16,12 +17,12 @@ use router::Portion;
 pub(crate) fn answer_to(long: bool, line: &[u8]) -> Answer {
     let w = text::which(
         b"open\topenaps\tseal\tsealaps\tremove\ttunnel\tdown\thash\tkeyedhash\tkey\tdigest\tinner\ttlvs\t\
-        value\theader\tauxiliary\tpayload\ttag\thall",
+        value\theader\tauxiliary\tpayload\ttag\thall\tprint\tlabel",
         text::field(line, 0),
     );
     let form = text::field(
         b".SG\t.SAG\t.SG\t.SABG\t.SA\t.SAG\t.SG\t.G\t.G\t.TG\t.TG\t.TG\t.TG\t\
-        .TBG\t.TG\t.TG\t.TG\t.TG\t.SSSG",
+        .TBG\t.TG\t.TG\t.TG\t.TG\t.SSSG\t.SG\t.G",
         w,
     );
     let x = fields_of(line, form);
@@ -53,6 +54,8 @@ fn answer_well(w: usize, x: Fields) -> Answer {
         15 => parts::portion(v[1], f, Portion::Auxiliary),
         16 => parts::portion(v[1], f, Portion::Payload),
         17 => parts::portion(v[1], f, Portion::Tag),
-        _ => opening::hall(v[1], v[2], v[3], f),
+        18 => opening::hall(v[1], v[2], v[3], f),
+        19 => label_lines::print(v[1], f),
+        _ => label_lines::label(f),
     }
 }

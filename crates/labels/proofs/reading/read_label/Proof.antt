@@ -80,8 +80,8 @@ returns-3 c =
     let cut = ap (λ (p : Part). p .octets) (digits .front .ensures) in
     let cut2 = ap (λ (p : Part). p .octets) (octets .front2 .ensures) in
     let is =
-        octets-read s _ _ _ _ _ (spelt (search)) (counted .count-digits .ensures) (search needs) (laid .lay-digits .ensures) cut
-        (read .octets-of .ensures) in
+    octets-read s _ _ _ _ _ (spelt (search)) (counted .count-digits .ensures) (search needs) (laid .lay-digits .ensures) cut
+    (read .octets-of .ensures) in
     simp (spelt (search)) (c .judge .ensures ∙ ap judged (cut2 ∙ is))
 
 pub read-label-spec : {M : Type 1} → statement M
