@@ -35,11 +35,11 @@ same-behind (x ∷ a) b c = rw (eq-eqb x x refl) (same-behind a b c)
 -- ---- the octets o
 
 -- the octets behind the code, compared with the CRC that was worked out for it
-pub crc-told : (o b : List ℕ) (n k : ℕ) (r t : Bool) → r ≡ eqList (take (length o - n) (drop n o)) b → b ≡ spelled 2 k → k ≡ crc (take n o)
+pub crc-told : (o b : List ℕ) (n : ℕ) (r t : Bool) → r ≡ eqList (take (length o - n) (drop n o)) b → b ≡ spelled 2 (crc (take n o))
     → r ≡ t → eqList (drop n o) (spelled 2 (crc (take n o))) ≡ t
-crc-told o b n k r t e f g h =
+crc-told o b n r t e f h =
     let all : take (length o - n) (drop n o) ≡ drop n o = take-all (length o - n) (drop n o) (omega (arith, length-drop n o)) in
-    ap₂ eqList (sym all) (sym (f ∙ ap (spelled 2) g)) ∙ sym e ∙ h
+    ap₂ eqList (sym all) (sym f) ∙ sym e ∙ h
 
 module _ (o : List ℕ) where
   pub judged-few : length o < 2 → judged o ≡ noCode 15

@@ -76,15 +76,14 @@ unfolding labelText
 label-length c = length-print (withCrc c) ∙ omega (arith, length-with c)
 
 -- code and CRC, laid into zeros one behind the other
-pub whole-laid : (c w v t d : List ℕ) (k : ℕ) → w ≡ pasted (replicate 18 0) 0 c → d ≡ spelled 2 k → k ≡ crc c → v ≡ pasted w (length c) d
+pub whole-laid : (c w v t d : List ℕ) → w ≡ pasted (replicate 18 0) 0 c → d ≡ spelled 2 (crc c) → v ≡ pasted w (length c) d
     → t ≡ take (length c + 2) v → length c ≤ 16 → t ≡ withCrc c
 unfolding withCrc
-whole-laid c w v t d k p q r s e h =
+whole-laid c w v t d p q s e h =
     let first : w ≡ onto c (replicate 18 0) = pasted-onto w (replicate 18 0) c p (omega arith) in
     let long : length w ≡ 18 = ap length first ∙ length-onto c (replicate 18 0) (omega arith) in
-    let sum : d ≡ spelled 2 (crc c) = q ∙ ap (spelled 2) r in
-    let two : length d ≡ 2 = ap length sum in
+    let two : length d ≡ 2 = ap length q in
     let both : v ≡ paste w (length c) d 2 = pasted-whole v w (length c) d 2 s two (omega arith) in
     let front : take (length c) w ≡ c = ap (take (length c)) first ∙ take-at c (drop (length c) (replicate 18 0)) (length c) refl in
     e ∙ ap (take (length c + 2)) both ∙ take-paste w (length c) d 2 (omega arith) (omega arith)
-    ∙ ap₂ (λ (x y : List ℕ). x ++ y) front (take-all 2 d (omega arith) ∙ sum)
+    ∙ ap₂ (λ (x y : List ℕ). x ++ y) front (take-all 2 d (omega arith) ∙ q)

@@ -1,9 +1,17 @@
 // The CRC of an install code. It is worked out bit by bit, as it is defined: a code has 16 octets at
 // most, and a table would cost more memory than it saves time.
 ghost use mathlib.Core.Path.{_≡_};
+ghost use Rattle.octets.specs.Least.{spelled};
 ghost use Rattle.labels.specs.Crc.{shifted as Crc·shifted, takenIn, crc};
 
-pub(crate) fn crc_of(s: &[u8]) -> u16
+// The two octets that stand behind a code on its label.
+pub(crate) fn crc_octets(code: &[u8]) -> [u8; 2]
+    ensures { λ r. ⌜ r ≡ spelled 2 (crc (now (code .entry))) ⌝ }
+{
+    octets::spelled2(crc_of(code))
+}
+
+fn crc_of(s: &[u8]) -> u16
     ensures { λ r. ⌜ r ≡ crc (now (s .entry)) ⌝ }
 {
     let mut c: u16 = 0xffff;

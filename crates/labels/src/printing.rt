@@ -8,7 +8,7 @@ ghost use Rattle.labels.specs.Spelling.{capital as Case·capital, digitI
 ghost use Rattle.labels.specs.Printing.{asPrinted, printing, printLabel};
 use crate::Printed;
 use crate::codes::code_length;
-use crate::crc::crc_of;
+use crate::crc::crc_octets;
 use answers::Refusal;
 
 // Prints the label of a code at the start of out: code and CRC in capitals, one space between octets.
@@ -26,7 +26,7 @@ pub fn print_label(code: &[u8], out: &mut [u8]) -> Printed
     }
     let mut whole = [0u8; 18];
     octets::paste_at(&mut whole, 0, code);
-    let crc = octets::spelled2(crc_of(code));
+    let crc = crc_octets(code);
     octets::paste_at(&mut whole, n, &crc);
     lay_text(text::front(&whole, n + 2), out);
     Printed::Text(3 * n + 5)

@@ -7,7 +7,7 @@ ghost use Rattle.labels.specs.Reading.{judged, readLabel};
 use crate::Coded;
 use crate::Label;
 use crate::codes::code_length;
-use crate::crc::crc_of;
+use crate::crc::crc_octets;
 use crate::spelling::count_digits;
 use crate::spelling::lay_digits;
 use crate::spelling::spells;
@@ -43,17 +43,18 @@ fn judge(o: &[u8]) -> Label
     if !code_length(n) {
         return no_code(Refusal::Label);
     }
-    let crc = octets::spelled2(crc_of(&o[..n]));
+    let code = text::front(o, n);
+    let crc = crc_octets(code);
     if !octets::same(&o[n..], &crc) {
         return no_code(Refusal::Crc);
     }
-    let mut code = [0u8; 16];
-    octets::paste_at(&mut code, 0, &o[..n]);
+    let mut padded = [0u8; 16];
+    octets::paste_at(&mut padded, 0, code);
     let hashed = cipher::hash(o);
     let key = hashed.octets;
     Label {
         answer: Coded::Code(n),
-        code,
+        code: padded,
         key,
     }
 }

@@ -28,12 +28,11 @@ whole : (c : tie.After-front) → let s : tie.Start = search in c .front .result
 whole c =
     let start : tie.Start = search in
     let laid : tie.After-paste-at = search in
-    let worked-out : tie.After-crc-of = search in
-    let spelled-so : tie.After-spelled2 = search in
+    let worked-out : tie.After-crc-octets = search in
     let behind : tie.After-paste-at2 = search in
     let cut = ap (λ (p : Part). p .octets) (c .front .ensures) in
-    whole-laid (start .args .code .now) _ _ _ _ _ (laid .paste-at .ensures) (spelled-so .spelled2 .ensures) (worked-out .crc-of .ensures)
-    (behind .paste-at2 .ensures) cut (most (search))
+    whole-laid (start .args .code .now) _ _ _ _ (laid .paste-at .ensures) (worked-out .crc-octets .ensures) (behind .paste-at2 .ensures) cut
+    (most (search))
 
 code-length-requires : tie.Need-code-length-requires
 code-length-requires c κs = search needs
@@ -65,11 +64,8 @@ slice-aggregate-paste-at c = search needs
 paste-at-requires : tie.Need-paste-at-requires
 paste-at-requires c κs = search needs
 
-crc-of-requires : tie.Need-crc-of-requires
-crc-of-requires c κs = search needs
-
-spelled2-requires : tie.Need-spelled2-requires
-spelled2-requires c κs = search needs
+crc-octets-requires : tie.Need-crc-octets-requires
+crc-octets-requires c κs = search needs
 
 slice-aggregate-paste-at-2 : tie.Need-slice-aggregate-paste-at-2
 slice-aggregate-paste-at-2 c = search needs
@@ -128,8 +124,7 @@ print-label-spec =
     returns-2
     slice-aggregate-paste-at
     paste-at-requires
-    crc-of-requires
-    spelled2-requires
+    crc-octets-requires
     slice-aggregate-paste-at-2
     slice-aggregate-paste-at-3
     paste-at-requires-2

@@ -3,11 +3,12 @@ use mathlib.Core.Path.{_≡_, sym, ap, _∙_}
 use mathlib.Core.Bool.{Bool, true}
 use Prim.Native.Nat.{_-_}
 use native.Mathlib.Omega.{arith}
-use lib.ListN.{length, take, drop, length-take}
+use lib.ListN.{length, take, drop, replicate}
 use borrow.Author.Needs.{needs}
 use borrow.Author.Tests.{not-true, not-false}
 use Rattle.octets.specs.Least.{spelled}
-use Rattle.octets.specs.Lists.{eqList}
+use Rattle.octets.specs.Lists.{eqList, pasted}
+use Rattle.octets.specs.Parts.{Part}
 use Rattle.cipher.specs.Answers.{Product}
 use Rattle.cipher.proofs.Lengths.{hashing-made}
 use Rattle.labels.specs.Crc.{crc}
@@ -20,14 +21,16 @@ use Rattle.labels.proofs.reading.judge.Tie as tie
 allowed : (c : tie.Else2) → let s : tie.Start = search in codeLength (length (s .args .o .now) - 2) ≡ true
 allowed c = sym (c .before .code-length .ensures) ∙ not-false _ (c .if2 .left)
 
+code : (c : tie.After-front) → let s : tie.Start = search in c .front .result .now ≡ take (length (s .args .o .now) - 2) (s .args .o .now)
+code c = ap (λ (p : Part). p .octets) (c .front .ensures)
+
 compared : (c : tie.After-same) → let s : tie.Start = search in let o = s .args .o .now in (t : Bool) → c .same .result ≡ t
     → eqList (drop (length o - 2) o) (spelled 2 (crc (take (length o - 2) o))) ≡ t
 compared c t e =
     let start : tie.Start = search in
     let o = start .args .o .now in
-    let spelled-so : tie.After-spelled2 = search in
-    let worked-out : tie.After-crc-of = search in
-    crc-told o _ (length o - 2) _ _ t (c .same .ensures) (spelled-so .spelled2 .ensures) (worked-out .crc-of .ensures) e
+    let worked-out : tie.After-crc-octets = search in
+    crc-told o _ (length o - 2) _ t (c .same .ensures) (worked-out .crc-octets .ensures ∙ ap (λ x. spelled 2 (crc x)) (code (search))) e
 
 no-code-requires : tie.Need-no-code-requires
 no-code-requires c κs = search needs
@@ -54,14 +57,11 @@ returns-2 c =
     c .no-code2 .ensures
     ∙ sym (judged-length (start .args .o .now) (sym (then2 .before .code-length .ensures) ∙ not-true _ (then2 .if2 .taken)))
 
-slice-aggregate-crc-of : tie.Need-slice-aggregate-crc-of
-slice-aggregate-crc-of c = simp length-take (omega arith)
+front-requires : tie.Need-front-requires
+front-requires c κs = search needs
 
-crc-of-requires : tie.Need-crc-of-requires
-crc-of-requires c κs = search needs
-
-spelled2-requires : tie.Need-spelled2-requires
-spelled2-requires c κs = search needs
+crc-octets-requires : tie.Need-crc-octets-requires
+crc-octets-requires c κs = search needs
 
 sub-same : tie.Need-sub-same
 sub-same c = search needs
@@ -91,9 +91,6 @@ returns-3 c =
 slice-aggregate-paste-at : tie.Need-slice-aggregate-paste-at
 slice-aggregate-paste-at c = search needs
 
-slice-aggregate-paste-at-2 : tie.Need-slice-aggregate-paste-at-2
-slice-aggregate-paste-at-2 c = simp length-take (omega arith)
-
 paste-at-requires : tie.Need-paste-at-requires
 paste-at-requires c κs = search needs
 
@@ -107,7 +104,8 @@ returns-4 c =
     let laid : tie.After-paste-at = search in
     let else3 : tie.Else3 = search in
     let most = code-most _ (allowed (search)) in
-    judged-good o (allowed (search)) _ _ (compared (search) _ (not-false _ (else3 .if3 .left))) (laid .paste-at .ensures)
+    judged-good o (allowed (search)) _ _ (compared (search) _ (not-false _ (else3 .if3 .left)))
+    (laid .paste-at .ensures ∙ ap (pasted (replicate 16 0) 0) (code (search)))
     (ap (λ (x : Product). x .octets) (c .before .hash .ensures ∙ hashing-made o (omega arith)))
 
 pub judge-spec : {M : Type 1} → statement M
@@ -120,9 +118,8 @@ judge-spec =
     code-length-requires
     no-code-requires-2
     returns-2
-    slice-aggregate-crc-of
-    crc-of-requires
-    spelled2-requires
+    front-requires
+    crc-octets-requires
     sub-same
     part-same-start
     part-same-end
@@ -131,7 +128,6 @@ judge-spec =
     no-code-requires-3
     returns-3
     slice-aggregate-paste-at
-    slice-aggregate-paste-at-2
     paste-at-requires
     hash-requires
     returns-4)
