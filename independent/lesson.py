@@ -1,19 +1,24 @@
-"""The first lesson: what a bench answers to examples/first-lesson.bench, stored beside it."""
+"""The lessons: what a bench answers to each script of examples/, stored beside it."""
 
 from . import stored
 from .bench.desk import Desk
 from .lines import Wrong, answers, written
 
 EXAMPLES = stored.ROOT / "examples"
-SCRIPT, ANSWERS = "first-lesson.bench", "first-lesson.answers"
+LESSONS = ("first-lesson", "label-lesson")
+
+
+def answered(name):
+    """The answers to a lesson, each by a desk of its own."""
+    path = EXAMPLES / f"{name}.bench"
+    if not path.is_file():
+        raise Wrong(f"{stored.shown(path)} is missing")
+    return written(answers(Desk(), path.read_bytes()))
 
 
 def made():
-    """The stored file."""
-    path = EXAMPLES / SCRIPT
-    if not path.is_file():
-        raise Wrong(f"{stored.shown(path)} is missing")
-    return {ANSWERS: written(answers(Desk(), path.read_bytes()))}
+    """The stored files."""
+    return {f"{name}.answers": answered(name) for name in LESSONS}
 
 
 def run(arguments):

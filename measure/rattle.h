@@ -17,6 +17,7 @@ struct outcome { u8 refused, refusal; };
 struct answer { u8 refused, refusal; size_t made; };
 struct opened { struct answer answer; uint64_t sender; u8 secured, identifier; };
 struct hashed { struct answer answer; u8 octets[16]; };
+struct label { struct answer answer; u8 code[16], key[16]; };
 
 /* ---- the board */
 struct slot { u8 present, sequence, key[16]; };
@@ -67,4 +68,8 @@ void commands__writer__write_command(struct sent *, const struct board *, u8 ack
 void commands__reader__read_command(void *, lent frame, const void *protection);
 void router__routing__route(void *, lent frame, const void *protection);
 void router__routing__portion_of(struct slice *, lent frame, const void *protection, const void *portion);
+
+/* ---- labels */
+void labels__reading__read_label(struct label *, lent text);
+void labels__printing__print_label(struct answer *, lent code, lent out);
 #endif

@@ -42,7 +42,7 @@ esac
 
 # ---- the crates, now and before, each in a repository of their own: without stored scripts, so that `rt try` has nothing
 # ---- to run, and with a program beside them that calls nothing
-repository() { # FROM SIDE: makes $work/SIDE
+repository() { # FROM SIDE CRATES: makes $work/SIDE, whose program that calls nothing has these crates besides
     mkdir -p "$work/$2/crates/small/src"
     (cd "$1" && find crates -path '*/src/*' -name '*.rt') | while IFS= read -r file; do
         mkdir -p "$work/$2/$(dirname "$file")"
@@ -51,16 +51,16 @@ repository() { # FROM SIDE: makes $work/SIDE
     echo 'fn main() {}' >"$work/$2/crates/small/src/main.rt"
     {
         cat "$1/crates.txt"
-        echo 'small: octets answers cipher frames board seals network aps tlvs commands router'
+        echo "small: octets answers cipher frames board seals network aps tlvs commands router$3"
     } >"$work/$2/crates.txt"
 }
 rm -rf "$work"
 mkdir -p "$work/revision"
-repository "$root" now
+repository "$root" now ' text labels'
 if [ "$revision" ]; then
     git -C "$root" archive -o "$work/revision.tar" "$revision" crates crates.txt || give_up "the revision $1 has no crates"
     tar -xf "$work/revision.tar" -C "$work/revision"
-    repository "$work/revision" before
+    repository "$work/revision" before ''
 fi
 
 # ---- a kit of links whose clang keeps the module that it is handed
@@ -146,9 +146,10 @@ calls='board::state::make board::keys::install board::keys::switch board::partne
     board::rows::forget commands::writer::write_command commands::reader::read_command network::opening::open_frame
     network::sealing::seal_frame network::looking::look_frame aps::opening::open_frame aps::sealing::seal_frame
     aps::looking::look_frame router::routing::route router::routing::portion_of'
+labels='labels::reading::read_label labels::printing::print_label' # no earlier revision need have them
 module now vectors '' 'cipher::seal cipher::unseal cipher::keyed_hash'
-module now small '' "$calls board::rows::find_row"
-module now bench '' "$calls"
+module now small '' "$calls $labels board::rows::find_row"
+module now bench '' "$calls $labels"
 [ -z "$revision" ] || module before small before__ "$calls"
 rustc --edition 2021 -C opt-level=3 -C panic=abort -C codegen-units=1 -C target-cpu=$theirs --crate-type staticlib \
     "$here/reference.rs" -o "$work/libreference.a"

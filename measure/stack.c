@@ -1,6 +1,6 @@
 /* What each of the board's calls takes of the stack, at full frames: sealing and opening at both layers (APS under key
    identifier 3, with its keyed hash), looking, the requests that change keys, a command written and read, a tunnel
-   routed; with the longest lists, in which 511 others stand before the sender. And the memory that a board with such lists
+   routed, a label read and printed; with the longest lists, in which 511 others stand before the sender. And the memory that a board with such lists
    asks for. */
 #define _GNU_SOURCE
 #include "cases.h"
@@ -19,6 +19,8 @@ static union {
     struct sent sent;
     struct opened opened;
     struct received received;
+    struct label label;
+    struct answer answer;
     u8 octets[2048];
 } answer;
 static struct board board;
@@ -26,6 +28,8 @@ static uint64_t addresses[ROWS];
 static uint32_t floors[ROWS];
 static u8 plain[NETWORK], aps[APS], sealed[NETWORK_SEALED], aps_sealed[APS_SEALED], written[COMMAND];
 static u8 tunnel[TUNNEL] = { 0x01, 0, 0x0e, 1, 2, 3, 4, 5, 6, 7, 8, 0x21, 0, 0x20 };
+static const char text[] = "83 FE D3 40 7A 93 97 23 A5 C6 39 B2 69 16 D5 05 C3 B5";
+static const u8 code[16] = { 0x83, 0xfe, 0xd3, 0x40, 0x7a, 0x93, 0x97, 0x23, 0xa5, 0xc6, 0x39, 0xb2, 0x69, 0x16, 0xd5, 0x05 };
 static u8 out[NETWORK_SEALED];
 static struct slice a = { addresses, ROWS }, f = { floors, ROWS }, o = { out, sizeof out }, handed;
 
@@ -49,6 +53,8 @@ CALL(switch_key, DONE(board__keys__switch(&answer.after, &board, 5)))
 CALL(read_command, DONE(commands__reader__read_command(answer.octets, SLICE(written, COMMAND), zeros)))
 CALL(route, DONE(router__routing__route(answer.octets, SLICE(tunnel, TUNNEL), zeros)))
 CALL(portion, DONE(router__routing__portion_of(&handed, SLICE(tunnel, TUNNEL), zeros, zeros)))
+CALL(read_label, DONE(labels__reading__read_label(&answer.label, SLICE(text, sizeof text - 1))))
+CALL(print_label, DONE(labels__printing__print_label(&answer.answer, SLICE(code, 16), &o)))
 CALL(make, DONE(board__state__make(&answer.after, OWN)))
 CALL(forget, (addresses[OTHER_LAST] = 6, DONE(board__rows__forget(&answer.outcome, &a, &f, 1, 6))))
 
@@ -80,6 +86,11 @@ static void setup(void) {
     must(memmem(answer.octets, 32, tunnel + 3, 8) != NULL, "the tunnel");
     portion_rattle();
     must(handed.at == tunnel + 11 && handed.length == TUNNEL - 11, "the inner frame");
+    read_label_rattle();
+    must(!answer.label.answer.refused && answer.label.answer.made == 16 && !memcmp(answer.label.code, code, 16) &&
+         answer.label.key[0] == 0x66 && answer.label.key[15] == 0xbb, "the label");
+    memset(out, 0xee, sizeof out); print_label_rattle();
+    must(answer.answer.made == sizeof text - 1 && !memcmp(out, text, sizeof text - 1) && out[sizeof text - 1] == 0xee, "the print");
     memset(out, 0xee, sizeof out); open_network_rattle();
     must(!memcmp(out, plain, NETWORK) && addresses[LAST] == OWN && floors[LAST] == 1, "the network frame");
     memset(out, 0xee, sizeof out); open_aps_rattle();
@@ -108,7 +119,7 @@ static void memory(void) {
 static const struct measured calls[] = {
     ALONE(open_network), ALONE(open_full), ALONE(open_aps), ALONE(seal_network), ALONE(seal_aps), ALONE(look_network),
     ALONE(look_aps), ALONE(add_link), ALONE(write_command), ALONE(install), ALONE(remove_link), ALONE(switch_key),
-    ALONE(read_command), ALONE(route), ALONE(portion), ALONE(make), ALONE(forget),
+    ALONE(read_command), ALONE(route), ALONE(portion), ALONE(read_label), ALONE(print_label), ALONE(make), ALONE(forget),
 };
 int main(int argc, char **argv) {
     int code;

@@ -1,12 +1,12 @@
 #!/usr/bin/env python3
-"""The first lesson, answered by the bench: every answer must be the stored one.
+"""The lessons of examples/, answered by the bench: every answer must be the stored one.
 
     python3 tests/lesson.py           the repository's target/bin/bench
     python3 tests/lesson.py --bench 'python3 -m independent bench --answer'
 
-examples/first-lesson.bench has the lines, examples/first-lesson.answers the answers, which
-`python3 -m independent lesson` makes. The last line is `N answers as stored`, and the exit code 0;
-at the first difference it is 1.
+examples/NAME.bench has the lines, examples/NAME.answers the answers, which `python3 -m independent
+lesson` makes. For each there is a line `NAME: N answers as stored`, and the exit code is 0; at the
+first difference it is 1.
 """
 
 import argparse
@@ -17,8 +17,8 @@ sys.path.insert(0, str(Path(__file__).resolve().parent.parent))
 
 from bench_pipe import BENCH_HELP, ROOT, Bench, Differs, bench_words, in_words, readable
 
-LESSON = ROOT / "examples" / "first-lesson.bench"
-ANSWERS = ROOT / "examples" / "first-lesson.answers"
+EXAMPLES = ROOT / "examples"
+LESSONS = ("first-lesson", "label-lesson")
 
 
 def compare(bench, lines, stored):
@@ -37,19 +37,26 @@ def compare(bench, lines, stored):
     return len(stored)
 
 
+def play(name, words):
+    """Starts a bench for a lesson and compares."""
+    lines, stored = ((EXAMPLES / f"{name}.{kind}").read_bytes().removesuffix(b"\n").split(b"\n")
+                     for kind in ("bench", "answers"))
+    bench = Bench(words)
+    try:
+        print(f"{name}: {compare(bench, lines, stored)} answers as stored")
+    finally:
+        bench.close()
+
+
 def main():
-    """Starts a bench and compares; the exit code."""
+    """Plays every lesson; the exit code."""
     parser = argparse.ArgumentParser(description=__doc__,
                                      formatter_class=argparse.RawDescriptionHelpFormatter)
     parser.add_argument("--bench", metavar="COMMAND", help=BENCH_HELP)
     given = parser.parse_args()
-    lines, stored = (path.read_bytes().removesuffix(b"\n").split(b"\n")
-                     for path in (LESSON, ANSWERS))
-    bench = Bench(bench_words(given.bench))
-    try:
-        print(f"{compare(bench, lines, stored)} answers as stored")
-    finally:
-        bench.close()
+    words = bench_words(given.bench)
+    for name in LESSONS:
+        play(name, words)
     return 0
 
 

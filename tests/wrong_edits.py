@@ -47,7 +47,7 @@ from pathlib import Path
 ROOT = Path(__file__).resolve().parent.parent
 EDITS = ROOT / "tests" / "wrong"
 LIBRARIES = ["octets", "answers", "cipher", "frames", "board", "seals", "network", "aps", "tlvs",
-             "commands", "router", "text", "lines"]
+             "commands", "router", "text", "lines", "labels"]
 FACT, SHAPE, NONE = "refused for a fact", "refused for shape alone", "NOT REFUSED"
 
 # What the prover says of a fact that it does not find, with the goal that is left.
