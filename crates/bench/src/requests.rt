@@ -72,16 +72,16 @@ fn on_board(r: OnBoard, key: Frame, f: Frame, b: Board, lists: Lists, lent: Lent
 
 fn without_board(r: Alone, key: Frame, f: Frame, desk: Desk) -> Reply {
     let lent = desk.lent;
-    let octets = lent.room;
+    let room = lent.room;
     match r {
         Alone::Board(own, counter) => making::make(own, counter, desk),
-        Alone::Lend(room, rows, tops) => making::lend(room, rows, tops, desk),
+        Alone::Lend(output, rows, tops) => making::lend(output, rows, tops, desk),
         Alone::Read(guard) => reply_same(command_lines::read(guard, f), desk),
         Alone::Tlv(guard, tag) => reply_same(command_lines::tlv(guard, tag, f), desk),
         Alone::Hash => reply_same(hashes::hash(f), desk),
         Alone::KeyedHash => reply_same(hashes::keyed_hash(key, f), desk),
         Alone::Route(guard) => reply_same(routing::route(guard, f), desk),
         Alone::Label => reply_same(label_lines::label(f), desk),
-        Alone::Print => reply_same(label_lines::print(f, octets), desk),
+        Alone::Print => reply_same(label_lines::print(f, room), desk),
     }
 }

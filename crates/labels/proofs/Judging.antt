@@ -5,13 +5,12 @@ use mathlib.Core.Bool.{Bool, true, false}
 use mathlib.Core.List.{List, [], _∷_, _++_}
 use Prim.Native.Nat.{ℕ, _+_, _-_, _/_, _%_, _≤_, _<_}
 use native.Mathlib.Omega.{arith}
-use lib.Dec.{eqb}
 use lib.ListN.{length, take, drop, replicate, length-drop, take-append-drop}
 use lib.Seq.{take-at, take-all, length-take-le}
 use borrow.Author.Tests.{eq-eqb, le-leb}
 use Rattle.octets.specs.Keys.{theKey}
 use Rattle.octets.specs.Least.{spelled}
-use Rattle.octets.specs.Lists.{at, tab, eqList, onto, pasted}
+use Rattle.octets.specs.Lists.{eqList, onto, pasted}
 use Rattle.octets.proofs.Compared.{same-equal}
 use Rattle.octets.proofs.Pasted.{pasted-onto}
 use Rattle.octets.proofs.Tabs.{onto-zeros}

@@ -1,6 +1,6 @@
 -- A code has at most 16 octets. A text that spells octets has two digits for each, and nothing that is no digit.
 -- Assumes nothing.
-use mathlib.Core.Path.{_≡_, refl, sym, ap, _∙_}
+use mathlib.Core.Path.{_≡_, refl, sym, _∙_}
 use mathlib.Core.Bool.{Bool, true, false}
 use mathlib.Core.List.{List, [], _∷_}
 use Prim.Native.Nat.{ℕ, _+_, _%_, _≤_, _<_}
@@ -12,7 +12,7 @@ use Rattle.octets.specs.Choice.{if_then_else_, both}
 use Rattle.octets.proofs.Choices.{both-parts}
 use Rattle.text.specs.Digits.{allDigits}
 use Rattle.labels.specs.declared.spelling.Next.{Next}
-use Rattle.labels.specs.declared.spelling.Next.the-variants.{Octet, Digit, Gap, Wrong}
+use Rattle.labels.specs.declared.spelling.Next.the-variants.{Octet, Digit, Behind, Wrong}
 use Rattle.labels.specs.Codes.{codeLength}
 use Rattle.labels.specs.Reading.{separator, hexDigit, spellsOn, digitsIn}
 use Rattle.labels.proofs.Texts.{never, digit-separator}
@@ -40,7 +40,7 @@ code-over n h = go (codeLength n) refl
 abbrev begun : Next → ℕ
 begun Octet = 0
 begun Digit = 1
-begun Gap = 0
+begun Behind = 0
 begun Wrong = 0
 
 -- what the digits of a text have that spells on
@@ -58,7 +58,7 @@ led c s n m h w e =
     }
 
 -- a separator more
-passed : (c : ℕ) (s : List ℕ) → separator c ≡ true → Digits s Octet → Digits (c ∷ s) Gap
+passed : (c : ℕ) (s : List ℕ) → separator c ≡ true → Digits s Octet → Digits (c ∷ s) Behind
 unfolding digitsIn
 passed c s h w = record { plain = rw h (w .plain); pairs = rw h (w .pairs) }
 
@@ -66,14 +66,14 @@ pub all-digits : (s : List ℕ) (n : Next) → spellsOn s n ≡ true → Digits 
 unfolding spellsOn digitsIn allDigits
 all-digits [] Octet e = never e
 all-digits [] Digit e = never e
-all-digits [] Gap e = record { plain = refl; pairs = refl }
+all-digits [] Behind e = record { plain = refl; pairs = refl }
 all-digits [] Wrong e = never e
 all-digits (c ∷ s) Octet e = let p = both-parts (hexDigit c) (spellsOn s Digit) e in led c s Octet Digit (p .0) (all-digits s Digit (p .1)) refl
-all-digits (c ∷ s) Digit e = let p = both-parts (hexDigit c) (spellsOn s Gap) e in led c s Digit Gap (p .0) (all-digits s Gap (p .1)) refl
-all-digits (c ∷ s) Gap e = go (separator c) refl e (all-digits s Octet) (all-digits s Digit)
+all-digits (c ∷ s) Digit e = let p = both-parts (hexDigit c) (spellsOn s Behind) e in led c s Digit Behind (p .0) (all-digits s Behind (p .1)) refl
+all-digits (c ∷ s) Behind e = go (separator c) refl e (all-digits s Octet) (all-digits s Digit)
   where
     go : (t : Bool) → separator c ≡ t → (if t then spellsOn s Octet else both (hexDigit c) (spellsOn s Digit)) ≡ true
-        → (spellsOn s Octet ≡ true → Digits s Octet) → (spellsOn s Digit ≡ true → Digits s Digit) → Digits (c ∷ s) Gap
+        → (spellsOn s Octet ≡ true → Digits s Octet) → (spellsOn s Digit ≡ true → Digits s Digit) → Digits (c ∷ s) Behind
     go true h q f g = passed c s h (f q)
-    go false h q f g = let p = both-parts (hexDigit c) (spellsOn s Digit) q in led c s Gap Digit (p .0) (g (p .1)) refl
+    go false h q f g = let p = both-parts (hexDigit c) (spellsOn s Digit) q in led c s Behind Digit (p .0) (g (p .1)) refl
 all-digits (c ∷ s) Wrong e = never e

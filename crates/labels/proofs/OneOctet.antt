@@ -8,7 +8,7 @@ use native.Mathlib.Nat.{not-suc-le-zero, le-of-suc-le-suc}
 use native.Mathlib.Omega.{arith}
 use lib.Bits.{bitXor, xor-lt, xor-comm}
 use lib.Dec.{eqb, ltb, lit<}
-use lib.ListN.{length, getD, set, take, drop, length-set}
+use lib.ListN.{length, set, take, drop, length-set}
 use lib.Seq.{drop-at, length-take-le, take-set-lt, take-set-le, drop-set-lt, getD-set-same, getD-take}
 use borrow.Author.Tests.{eqb-true, eqb-false, ltb-true, ltb-false}
 use Rattle.octets.specs.Choice.{if_then_else_, both}
@@ -48,7 +48,8 @@ shifted-lt c h = go (eqb (c % 2) 1)
 -- the polynomial has the highest bit, and what moved down has not: so the bit that fell out is known, and so are the others
 apart : (a b : ℕ) → a < 2 ^ 15 → b < 2 ^ 15 → bitXor a polynomial ≡ b → ⊥
 apart a b h k e =
-    let p : bitXor a b ≡ polynomial = ap (bitXor a) (sym e) ∙ xor-comm a (bitXor a polynomial) ∙ ap (λ x. bitXor x a) (xor-comm a polynomial) ∙ xor-twice polynomial a in
+    let p : bitXor a b ≡ polynomial =
+    ap (bitXor a) (sym e) ∙ xor-comm a (bitXor a polynomial) ∙ ap (λ x. bitXor x a) (xor-comm a polynomial) ∙ xor-twice polynomial a in
     omega (arith, xor-lt 15 a b h k)
 
 shifted-one : (c d : ℕ) → c < 2 ^ 16 → d < 2 ^ 16 → shifted c ≡ shifted d → c ≡ d

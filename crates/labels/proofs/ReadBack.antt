@@ -3,7 +3,7 @@
 use mathlib.Core.Path.{_≡_, refl, sym, ap, _∙_}
 use mathlib.Core.Bool.{Bool, true, false}
 use mathlib.Core.List.{List}
-use Prim.Native.Nat.{ℕ, _+_, _-_, _≤_}
+use Prim.Native.Nat.{ℕ, _+_, _-_}
 use native.Mathlib.Omega.{arith}
 use lib.Dec.{leb}
 use lib.ListN.{length, take, drop}
@@ -17,8 +17,8 @@ use Rattle.octets.proofs.Numbers.{spelled-octets}
 use Rattle.labels.specs.Crc.{crc}
 use Rattle.labels.specs.Codes.{codeLength, withCrc, linkKey}
 use Rattle.labels.specs.Spelling.{Style, inPrint}
-use Rattle.labels.specs.Answers.{LabelTold, coded, printed, refused, Reading, reading, noCode}
-use Rattle.labels.specs.Reading.{codeIn, octetsIn, judged, readLabel}
+use Rattle.labels.specs.Answers.{coded, printed, refused, Reading, reading, noCode}
+use Rattle.labels.specs.Reading.{codeIn, judged, readLabel}
 use Rattle.labels.specs.Printing.{asPrinted, labelText, Printing, printing, printLabel}
 use Rattle.labels.proofs.Prints.{length-with}
 use Rattle.labels.proofs.Styles.{any-style}

@@ -1,7 +1,7 @@
 -- What a label reads as does not depend on case and separators: octets in print, in whatever style, are judged as those octets; and a
 -- text that spells octets is these octets in print, in some style.
 -- Assumes nothing.
-use mathlib.Core.Path.{_≡_, refl, sym, ap, ap₂, _∙_}
+use mathlib.Core.Path.{_≡_, refl, ap, ap₂, _∙_}
 use mathlib.Core.Bool.{Bool, true, false}
 use mathlib.Core.List.{List, [], _∷_, _++_}
 use Prim.Native.Nat.{ℕ, zero, suc, _+_, _-_, _*_, _/_, _%_, _≤_, _<_}
@@ -14,12 +14,11 @@ use Rattle.octets.proofs.AllOctets.{tail-octets}
 use Rattle.octets.proofs.Choices.{choose, both-parts}
 use Rattle.text.specs.Digits.{digitOf}
 use Rattle.text.specs.Hex.{octetsOf}
-use Rattle.labels.specs.declared.spelling.Next.the-variants.{Octet, Digit, Gap}
+use Rattle.labels.specs.declared.spelling.Next.the-variants.{Octet, Digit, Behind}
 use Rattle.labels.specs.Codes.{codeLength}
-use Rattle.labels.specs.Spelling.{nothing, space, hyphen, gapText, Case, small, capital, digitIn, Style, later, behind, inPrint}
+use Rattle.labels.specs.Spelling.{Gap, nothing, space, hyphen, gapText, Case, small, capital, digitIn, Style, later, behind, inPrint}
 use Rattle.labels.specs.Reading.{separator, hexDigit, spellsOn, spells, digitsIn, octetsIn, judged, readLabel}
 use Rattle.labels.proofs.Texts.{never, digit-separator}
-use Rattle.labels.specs.Spelling as spelling
 
 -- ---- a digit
 
@@ -69,7 +68,7 @@ record Spelt (r s : List ℕ) : Type 0 where
 
 -- the text r goes on behind an octet, and spells the octets s
 record Goes (r s : List ℕ) : Type 0 where
-  on : spellsOn r Gap ≡ true
+  on : spellsOn r Behind ≡ true
   octets : octetsOf (digitsIn r) ≡ s
 
 -- an octet before it
@@ -90,7 +89,7 @@ led k j x r s h w =
     }
 
 -- a gap before that
-parted : (g : spelling.Gap) (c : ℕ) (r s : List ℕ) → hexDigit c ≡ true → Spelt (c ∷ r) s → Goes (gapText g ++ (c ∷ r)) s
+parted : (g : Gap) (c : ℕ) (r s : List ℕ) → hexDigit c ≡ true → Spelt (c ∷ r) s → Goes (gapText g ++ (c ∷ r)) s
 unfolding spellsOn digitsIn separator
 parted nothing c r s h w = record { on = rw (digit-separator c h) (w .whole); octets = w .octets }
 parted space c r s h w = record { on = w .whole; octets = w .octets }
@@ -177,16 +176,16 @@ octet-styled a b s p q w =
     }
 
 -- the style p with another first gap
-abbrev after : spelling.Gap → Style → Style
+abbrev after : Gap → Style → Style
 after g p = record { gap = first g (later p .gap); high = p .high; low = p .low }
 
 -- a gap before a text
-gapped : (g : spelling.Gap) (p : Style) (o s : List ℕ) → spellsOn s Octet ≡ true → inPrint p o ≡ s → behind (after g p) o ≡ gapText g ++ s
+gapped : (g : Gap) (p : Style) (o s : List ℕ) → spellsOn s Octet ≡ true → inPrint p o ≡ s → behind (after g p) o ≡ gapText g ++ s
 unfolding behind inPrint spellsOn
 gapped g p [] s e q = never (ap (λ l. spellsOn l Octet) q ∙ e)
 gapped g p (x ∷ o) s e q = ap (λ r. gapText g ++ r) q
 
-gap-styled : (g : spelling.Gap) (s : List ℕ) → spellsOn s Octet ≡ true → octetsIn (gapText g ++ s) ≡ octetsIn s → InStyle s
+gap-styled : (g : Gap) (s : List ℕ) → spellsOn s Octet ≡ true → octetsIn (gapText g ++ s) ≡ octetsIn s → InStyle s
     → BehindStyle (gapText g ++ s)
 gap-styled g s e d w =
     record { style = after g (w .style); so = ap (behind (after g (w .style))) d ∙ gapped g (w .style) (octetsIn s) s e (w .so) }
@@ -195,7 +194,7 @@ gap-styled g s e d w =
 record Styled (s : List ℕ) : Type 0 where
   octet : spellsOn s Octet ≡ true → InStyle s
   digit : (a : ℕ) → hexDigit a ≡ true → spellsOn s Digit ≡ true → InStyle (a ∷ s)
-  gap : spellsOn s Gap ≡ true → BehindStyle s
+  gap : spellsOn s Behind ≡ true → BehindStyle s
 
 -- behind an octet stands a separator and then an octet, or an octet
 gap-next : (c : ℕ) (s : List ℕ) → Styled s → (t : Bool) → separator c ≡ t
@@ -222,7 +221,7 @@ styled (c ∷ s) =
     let w = styled s in
     record {
       octet = λ e. let p = both-parts (hexDigit c) (spellsOn s Digit) e in w .digit c (p .0) (p .1);
-      digit = λ a h e. let p = both-parts (hexDigit c) (spellsOn s Gap) e in octet-styled a c s h (p .0) (w .gap (p .1));
+      digit = λ a h e. let p = both-parts (hexDigit c) (spellsOn s Behind) e in octet-styled a c s h (p .0) (w .gap (p .1));
       gap = gap-next c s w (separator c) refl;
     }
 

@@ -15,7 +15,7 @@ use Rattle.octets.specs.Lists.{onto}
 use Rattle.text.proofs.Placed.{front-more}
 use Rattle.text.specs.Digits.{digitOf}
 use Rattle.labels.specs.declared.spelling.Next.{Next}
-use Rattle.labels.specs.declared.spelling.Next.the-variants.{Octet, Digit, Gap, Wrong}
+use Rattle.labels.specs.declared.spelling.Next.the-variants.{Octet, Digit, Behind, Wrong}
 use Rattle.labels.specs.Reading.{separator, hexDigit, spellsOn, digitsIn}
 
 pub never : {A : Type 0} → _≡_ {A = Bool} false true → A
@@ -52,7 +52,7 @@ pub neither : (c : ℕ) (s : List ℕ) (n : Next) → separator c ≡ false → 
 unfolding spellsOn
 neither c s Octet p q = rw q (sym (wrong-stays s))
 neither c s Digit p q = rw q (sym (wrong-stays s))
-neither c s Gap p q = rw (p, q) (sym (wrong-stays s))
+neither c s Behind p q = rw (p, q) (sym (wrong-stays s))
 neither c s Wrong p q = sym (wrong-stays s)
 
 -- ---- its digits

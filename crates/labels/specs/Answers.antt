@@ -3,11 +3,10 @@
 use mathlib.Core.List.{List}
 use Prim.Native.Nat.{ℕ}
 use Rattle.octets.specs.Keys.{Key, theKey}
-use Rattle.octets.specs.Lists.{at, tab}
+use Rattle.octets.specs.Lists.{tab}
 use Rattle.answers.specs.Numbers.{numberOf}
 use Rattle.labels.specs.declared.Coded.{Coded}
 use Rattle.labels.specs.declared.Printed.{Printed}
-use Rattle.labels.specs.Codes.{linkKey}
 use Rattle.labels.specs.declared.Coded.the-variants as codes
 use Rattle.labels.specs.declared.Printed.the-variants as prints
 

@@ -11,7 +11,7 @@ use Rattle.octets.specs.Lists.{at, tab, eqList}
 use Rattle.text.specs.Digits.{digitOf}
 use Rattle.text.specs.Hex.{octetsOf}
 use Rattle.labels.specs.declared.spelling.Next.{Next}
-use Rattle.labels.specs.declared.spelling.Next.the-variants.{Octet, Digit, Gap, Wrong}
+use Rattle.labels.specs.declared.spelling.Next.the-variants.{Octet, Digit, Behind, Wrong}
 use Rattle.labels.specs.Codes.{codeLength, withCrc, linkKey}
 use Rattle.labels.specs.Answers.{Reading, reading, coded, noCode}
 
@@ -31,11 +31,11 @@ hexDigit c = ltb (digitOf c) 16
 unfoldable pub spellsOn : List ℕ → Next → Bool
 spellsOn [] Octet = false
 spellsOn [] Digit = false
-spellsOn [] Gap = true
+spellsOn [] Behind = true
 spellsOn [] Wrong = false
 spellsOn (c ∷ s) Octet = both (hexDigit c) (spellsOn s Digit)
-spellsOn (c ∷ s) Digit = both (hexDigit c) (spellsOn s Gap)
-spellsOn (c ∷ s) Gap = if separator c then spellsOn s Octet else both (hexDigit c) (spellsOn s Digit)
+spellsOn (c ∷ s) Digit = both (hexDigit c) (spellsOn s Behind)
+spellsOn (c ∷ s) Behind = if separator c then spellsOn s Octet else both (hexDigit c) (spellsOn s Digit)
 spellsOn (c ∷ s) Wrong = false
 
 unfoldable pub spells : List ℕ → Bool

@@ -1,5 +1,5 @@
 // The CRC of an install code. It is worked out bit by bit, as it is defined: a code has 16 octets at
-// most, and a table would cost more memory than it saves time.
+// most and is read once, so that a table would cost 512 octets and save little.
 ghost use mathlib.Core.Path.{_≡_};
 ghost use Rattle.octets.specs.Least.{spelled};
 ghost use Rattle.labels.specs.Crc.{shifted as Crc·shifted, takenIn, crc};

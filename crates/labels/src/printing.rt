@@ -7,6 +7,7 @@ ghost use Rattle.labels.specs.Answers.{toldPrinted};
 ghost use Rattle.labels.specs.Spelling.{capital as Case·capital, digitIn, inPrint};
 ghost use Rattle.labels.specs.Printing.{asPrinted, printing, printLabel};
 use crate::Printed;
+use crate::codes::MOST_OCTETS;
 use crate::codes::code_length;
 use crate::crc::crc_octets;
 use answers::Refusal;
@@ -24,7 +25,7 @@ pub fn print_label(code: &[u8], out: &mut [u8]) -> Printed
     if out.len() < 3 * n + 5 {
         return Printed::Refused(Refusal::Room);
     }
-    let mut whole = [0u8; 18];
+    let mut whole = [0u8; MOST_OCTETS];
     octets::paste_at(&mut whole, 0, code);
     let crc = crc_octets(code);
     octets::paste_at(&mut whole, n, &crc);

@@ -6,6 +6,8 @@ ghost use Rattle.labels.specs.Answers.{toldCoded, reading, noCode};
 ghost use Rattle.labels.specs.Reading.{judged, readLabel};
 use crate::Coded;
 use crate::Label;
+use crate::codes::MOST_DIGITS;
+use crate::codes::MOST_OCTETS;
 use crate::codes::code_length;
 use crate::crc::crc_octets;
 use crate::spelling::count_digits;
@@ -22,12 +24,12 @@ pub fn read_label(s: &[u8]) -> Label
         return no_code(Refusal::Label);
     }
     let n = count_digits(s);
-    if 36 < n {
+    if MOST_DIGITS < n {
         return no_code(Refusal::Label);
     }
-    let mut digits = [0u8; 36];
+    let mut digits = [0u8; MOST_DIGITS];
     lay_digits(s, &mut digits);
-    let mut octets = [0u8; 18];
+    let mut octets = [0u8; MOST_OCTETS];
     text::octets_of(text::front(&digits, n), &mut octets);
     judge(text::front(&octets, n / 2))
 }

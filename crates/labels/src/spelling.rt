@@ -12,11 +12,11 @@ ghost use Rattle.labels.specs.Reading.{separator, hexDigit, spellsOn, sp
 pub enum Next {
     Octet,
     Digit,
-    Gap,
+    Behind,
     Wrong,
 }
 
-// Whether s spells octets. It may end behind one.
+// Whether s spells octets. A text ends behind one.
 pub(crate) fn spells(s: &[u8]) -> bool
     ensures { λ r. ⌜ r ≡ Reading·spells (now (s .entry)) ⌝ }
 {
@@ -27,7 +27,7 @@ pub(crate) fn spells(s: &[u8]) -> bool
     match next {
         Next::Octet => false,
         Next::Digit => false,
-        Next::Gap => true,
+        Next::Behind => true,
         Next::Wrong => false,
     }
 }
@@ -50,7 +50,7 @@ fn past_separator(next: Next) -> Next
     match next {
         Next::Octet => Next::Wrong,
         Next::Digit => Next::Wrong,
-        Next::Gap => Next::Octet,
+        Next::Behind => Next::Octet,
         Next::Wrong => Next::Wrong,
     }
 }
@@ -60,8 +60,8 @@ fn past_digit(next: Next) -> Next
 {
     match next {
         Next::Octet => Next::Digit,
-        Next::Digit => Next::Gap,
-        Next::Gap => Next::Digit,
+        Next::Digit => Next::Behind,
+        Next::Behind => Next::Digit,
         Next::Wrong => Next::Wrong,
     }
 }

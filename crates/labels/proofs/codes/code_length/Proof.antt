@@ -1,5 +1,4 @@
 -- Each length that is allowed has its arm; in the last arm it is none of them.
-use borrow.Author.Needs.{needs}
 use borrow.Author.Tests.{ne-eqb}
 use Rattle.labels.specs.Codes.{codeLength}
 use Rattle.labels.proofs.codes.code_length.Statement.{statement}

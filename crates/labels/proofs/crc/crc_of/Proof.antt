@@ -1,5 +1,5 @@
 -- The loop keeps: the register, with the octets from i on taken in, is what it is after all of them.
-use mathlib.Core.Path.{_≡_, refl, sym, ap, _∙_}
+use mathlib.Core.Path.{_≡_, sym, ap, _∙_}
 use Prim.Native.Nat.{_≤_, _-_, _+_}
 use lib.Bits.{bitXor}
 use lib.ListN.{length, drop}

@@ -1,5 +1,4 @@
 -- The code's test is the definition's.
-use borrow.Author.Needs.{needs}
 use borrow.Author.Tests.{eq-eqb, ne-eqb}
 use Rattle.labels.specs.Crc.{shifted}
 use Rattle.labels.proofs.crc.shifted.Statement.{statement}

@@ -30,7 +30,8 @@ loop-again : tie.Need-loop-again Inv-loop μ-loop
 loop-again c =
     let at-loop : tie.At-loop Inv-loop μ-loop = search in
     let l = at-loop .loop in
-    (search needs, l .inv .1 ∙ bit-more (l .counter) (l .r) (search needs) ∙ ap (shiftedBy (8 - (l .counter + 1))) (sym (c .shifted .ensures)))
+    let told = ap (shiftedBy (8 - (l .counter + 1))) (sym (c .shifted .ensures)) in
+    (search needs, l .inv .1 ∙ bit-more (l .counter) (l .r) (search needs) ∙ told)
 
 returns : tie.Need-returns Inv-loop μ-loop
 unfolding takenIn

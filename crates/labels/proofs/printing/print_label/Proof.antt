@@ -2,7 +2,7 @@
 use mathlib.Core.Path.{_≡_, sym, ap, ap₂, _∙_}
 use mathlib.Core.Bool.{true}
 use mathlib.Core.List.{List}
-use Prim.Native.Nat.{ℕ, _+_, _*_, _≤_}
+use Prim.Native.Nat.{ℕ, _≤_}
 use native.Mathlib.Omega.{arith}
 use lib.ListN.{length}
 use borrow.Author.Needs.{needs}
@@ -55,7 +55,8 @@ returns-2 c =
     let start : tie.Start = search in
     let then2 : tie.Then2 = search in
     let x = start .args in
-    let short = lt-leb (length (labelText (x .code .now))) (length (x .out .now)) (omega (arith, label-length (x .code .now), then2 .if2 .taken)) in
+    let t = labelText (x .code .now) in
+    let short = lt-leb (length t) (length (x .out .now)) (omega (arith, label-length (x .code .now), then2 .if2 .taken)) in
     simp (allowed (search), short)
 
 slice-aggregate-paste-at : tie.Need-slice-aggregate-paste-at

@@ -38,7 +38,8 @@ returns-2 c =
     let then2 : tie.Then2 = search in
     let counted : tie.After-count-digits = search in
     simp (spelt (search))
-    (c .no-code2 .ensures ∙ sym (judged-over (start .args .s .now) (spelt (search)) (omega (arith, counted .count-digits .ensures, then2 .if2 .taken))))
+    (c .no-code2 .ensures
+    ∙ sym (judged-over (start .args .s .now) (spelt (search)) (omega (arith, counted .count-digits .ensures, then2 .if2 .taken))))
 
 slice-aggregate-lay-digits : tie.Need-slice-aggregate-lay-digits
 slice-aggregate-lay-digits c = search needs

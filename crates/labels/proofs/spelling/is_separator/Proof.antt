@@ -1,5 +1,4 @@
 -- Each separator has its arm; in the last arm it is neither.
-use borrow.Author.Needs.{needs}
 use borrow.Author.Tests.{ne-eqb}
 use Rattle.labels.specs.Reading.{separator}
 use Rattle.labels.proofs.spelling.is_separator.Statement.{statement}

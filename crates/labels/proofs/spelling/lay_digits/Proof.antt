@@ -6,7 +6,6 @@ use native.Mathlib.Omega.{arith}
 use lib.ListN.{length, getD, set}
 use borrow.Author.Needs.{needs}
 use borrow.Author.Tests.{not-true, not-false}
-use Rattle.labels.specs.Reading.{separator}
 use Rattle.labels.proofs.Texts.{Laid, laid-none, laid-pass, laid-room, laid-more, laid-all}
 use Rattle.labels.proofs.spelling.lay_digits.Statement.{statement}
 use Rattle.labels.proofs.spelling.lay_digits.Tie as tie

@@ -1,5 +1,4 @@
 -- Each case goes on as the definition does with a digit, which is no separator.
-use mathlib.Core.Path.{sym}
 use borrow.Author.Needs.{needs}
 use Rattle.labels.specs.Reading.{spellsOn}
 use Rattle.labels.proofs.Texts.{digit-separator, wrong-stays}

@@ -1,5 +1,4 @@
 -- Each case goes on as the definition does with a separator, which is no digit.
-use mathlib.Core.Path.{sym}
 use borrow.Author.Needs.{needs}
 use Rattle.labels.specs.Reading.{spellsOn}
 use Rattle.labels.proofs.Texts.{separator-digit, wrong-stays}

@@ -16,7 +16,9 @@ past-separator-requires : tie.Need-past-separator-requires
 past-separator-requires c κs = search needs
 
 returns : tie.Need-returns
-returns c = let then1 : tie.Then1 = search in λ s. c .past-separator .ensures _ s (sym (then1 .before .is-separator .ensures) ∙ then1 .if1 .taken)
+returns c =
+    let then1 : tie.Then1 = search in
+    λ s. c .past-separator .ensures _ s (sym (then1 .before .is-separator .ensures) ∙ then1 .if1 .taken)
 
 digit-requires : tie.Need-digit-requires
 digit-requires c κs = search needs
@@ -28,8 +30,9 @@ returns-2 c =
     let else1 : tie.Else1 = search in
     let then2 : tie.Then2 = search in
     let x = start .args in
-    λ s.
-    neither (x .c) s (x .next) (sym (else1 .before .is-separator .ensures) ∙ else1 .if1 .left) (le-ltb (digitOf (x .c)) 16 (omega (arith, then2 .before .digit .ensures)))
+    let no-separator = sym (else1 .before .is-separator .ensures) ∙ else1 .if1 .left in
+    let no-digit = le-ltb (digitOf (x .c)) 16 (omega (arith, then2 .before .digit .ensures)) in
+    λ s. neither (x .c) s (x .next) no-separator no-digit
 
 past-digit-requires : tie.Need-past-digit-requires
 past-digit-requires c κs = search needs
