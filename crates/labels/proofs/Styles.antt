@@ -104,13 +104,19 @@ behind-goes p (x ∷ s) o =
     (digit-in (p .high 0) (x / 16) (omega arith))
     (led (p .high 0) (p .low 0) x (behind (later p) s) s b (behind-goes (later p) s (tail-octets o)))
 
+-- octets in print, one at least, spell these octets
+pub style-spells : (p : Style) (x : ℕ) (s : List ℕ) → Octets (x ∷ s)
+    → (spells (inPrint p (x ∷ s)) ≡ true) × (octetsIn (inPrint p (x ∷ s)) ≡ x ∷ s)
+unfolding inPrint spells octetsIn
+style-spells p x s o =
+    let w = led (p .high 0) (p .low 0) x (behind (later p) s) s (o .octet 0) (behind-goes (later p) s (tail-octets o)) in
+    (w .whole, w .octets)
+
 -- octets in print are judged as these octets
 pub any-style : (p : Style) (o : List ℕ) → Octets o → readLabel (inPrint p o) ≡ judged o
-unfolding inPrint readLabel spells spellsOn octetsIn judged codeLength
+unfolding inPrint readLabel spells spellsOn judged codeLength
 any-style p [] o = refl
-any-style p (x ∷ s) o =
-    let w = led (p .high 0) (p .low 0) x (behind (later p) s) s (o .octet 0) (behind-goes (later p) s (tail-octets o)) in
-    rw (w .whole, w .octets)
+any-style p (x ∷ s) o = let w = style-spells p x s o in rw (w .0, w .1)
 
 -- ---- a text that spells octets, in its own style
 
