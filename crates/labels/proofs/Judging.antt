@@ -22,9 +22,8 @@ use Rattle.text.specs.Hex.{octetsOf, isHex, unhexed, Unhexed, readInto}
 use Rattle.text.specs.declared.hex.Octets.{Octets}
 use Rattle.text.specs.declared.hex.Octets.the-variants.{Are}
 use Rattle.text.proofs.Hexed.{length-octets}
-use Rattle.labels.specs.declared.spelling.Next.the-variants.{Octet}
 use Rattle.labels.specs.Reading.{codeIn, judged, spells, digitsIn, octetsIn}
-use Rattle.labels.proofs.Lengths.{code-most, code-over, all-digits}
+use Rattle.labels.proofs.Lengths.{code-most, code-over, spelt-digits}
 
 -- lists that begin alike are the same where they go on alike
 same-behind : (a b c : List ℕ) → eqList (a ++ b) (a ++ c) ≡ eqList b c
@@ -77,19 +76,19 @@ module _ (o : List ℕ) where
 
 -- a text that spells more than 36 digits spells more than 18 octets
 pub judged-over : (s : List ℕ) → spells s ≡ true → 36 < length (digitsIn s) → judged (octetsIn s) ≡ noCode 15
-unfolding spells octetsIn
+unfolding octetsIn
 judged-over s e h =
-    let w = all-digits s Octet e in
+    let w = spelt-digits s e in
     let n = length-octets (digitsIn s) in
     judged-length (octetsOf (digitsIn s)) (code-over (length (octetsOf (digitsIn s)) - 2) (omega (arith, n, w .pairs)))
 
 -- its digits, laid onto zeros, spell its octets, which are laid onto zeros in turn
 pub octets-read : (s d t o : List ℕ) (r : Octets) (n : ℕ) → spells s ≡ true → n ≡ length (digitsIn s) → n ≤ 36
     → d ≡ onto (digitsIn s) (replicate 36 0) → t ≡ take n d → readInto r o ≡ unhexed t (replicate 18 0) → take (n / 2) o ≡ octetsIn s
-unfolding spells octetsIn unhexed isHex
+unfolding octetsIn unhexed isHex
 octets-read s d t o r n e c h p q u =
     let g = digitsIn s in
-    let w = all-digits s Octet e in
+    let w = spelt-digits s e in
     let long = length-octets g in
     let text : t ≡ g = q ∙ ap (take n) p ∙ take-at g (drop (length g) (replicate 36 0)) n (sym c) in
     let hex : isHex g 18 ≡ true = rw (eq-eqb (length g % 2) 0 (w .pairs), le-leb (length g / 2) 18 (omega arith), w .plain) in

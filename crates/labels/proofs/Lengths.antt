@@ -14,8 +14,9 @@ use Rattle.text.specs.Digits.{allDigits}
 use Rattle.labels.specs.declared.spelling.Next.{Next}
 use Rattle.labels.specs.declared.spelling.Next.the-variants.{Octet, Digit, Behind, Wrong}
 use Rattle.labels.specs.Codes.{codeLength}
-use Rattle.labels.specs.Reading.{separator, hexDigit, spellsOn, digitsIn}
-use Rattle.labels.proofs.Texts.{never, digit-separator}
+use Rattle.labels.specs.Reading.{separator, hexDigit, spells, digitsIn}
+use Rattle.labels.specs.Code.{spellsOn}
+use Rattle.labels.proofs.Texts.{never, digit-separator, spells-on}
 
 pub code-most : (n : ℕ) → codeLength n ≡ true → n ≤ 16
 unfolding codeLength
@@ -62,7 +63,7 @@ passed : (c : ℕ) (s : List ℕ) → separator c ≡ true → Digits s Octet �
 unfolding digitsIn
 passed c s h w = record { plain = rw h (w .plain); pairs = rw h (w .pairs) }
 
-pub all-digits : (s : List ℕ) (n : Next) → spellsOn s n ≡ true → Digits s n
+all-digits : (s : List ℕ) (n : Next) → spellsOn s n ≡ true → Digits s n
 unfolding spellsOn digitsIn allDigits
 all-digits [] Octet e = never e
 all-digits [] Digit e = never e
@@ -77,3 +78,7 @@ all-digits (c ∷ s) Behind e = go (separator c) refl e (all-digits s Octet) (al
     go true h q f g = passed c s h (f q)
     go false h q f g = let p = both-parts (hexDigit c) (spellsOn s Digit) q in led c s Behind Digit (p .0) (g (p .1)) refl
 all-digits (c ∷ s) Wrong e = never e
+
+-- two digits for each octet, and nothing besides
+pub spelt-digits : (s : List ℕ) → spells s ≡ true → Digits s Octet
+spelt-digits s e = all-digits s Octet (sym (spells-on s) ∙ e)

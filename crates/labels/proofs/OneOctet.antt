@@ -21,12 +21,11 @@ use Rattle.octets.proofs.Numbers.{least-spelled}
 use Rattle.octets.proofs.Xor.{xor-twice}
 use Rattle.text.specs.Digits.{digitOf, allDigits}
 use Rattle.text.specs.Hex.{octetsOf}
-use Rattle.labels.specs.declared.spelling.Next.the-variants.{Octet}
 use Rattle.labels.specs.Codes.{codeLength, withCrc}
 use Rattle.labels.specs.Spelling.{Style, inPrint}
 use Rattle.labels.specs.Answers.{coded, noCode}
 use Rattle.labels.specs.Reading.{spells, digitsIn, octetsIn, codeIn, judged, readLabel}
-use Rattle.labels.proofs.Lengths.{all-digits}
+use Rattle.labels.proofs.Lengths.{spelt-digits}
 use Rattle.labels.proofs.Styles.{any-style}
 use Rattle.labels.proofs.ReadBack.{with-octets, Holds, judged-holds, with-holds}
 use Rattle.labels.specs.Crc.{polynomial, ones, shifted, shiftedBy, takenIn, register, crc}
@@ -194,8 +193,8 @@ digits-octets (a ∷ b ∷ l) e =
     cons-octets (digitOf a * 16 + digitOf b) (octetsOf l) (omega arith) (digits-octets l (q .1))
 
 spelt-octets : (s : List ℕ) → spells s ≡ true → Octets (octetsIn s)
-unfolding spells octetsIn
-spelt-octets s e = digits-octets (digitsIn s) (all-digits s Octet e .plain)
+unfolding octetsIn
+spelt-octets s e = digits-octets (digitsIn s) (spelt-digits s e .plain)
 
 -- A text t has the octets of a good label s, but for one, which is another.
 pub one-octet : (s t : List ℕ) (n i x : ℕ) → readLabel s .told ≡ coded n → spells t ≡ true → i < length (octetsIn s) → x < 256

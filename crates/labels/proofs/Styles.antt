@@ -1,7 +1,7 @@
 -- What a label reads as does not depend on case and separators: octets in print, in whatever style, are judged as those octets; and a
 -- text that spells octets is these octets in print, in some style.
 -- Assumes nothing.
-use mathlib.Core.Path.{_≡_, refl, ap, ap₂, _∙_}
+use mathlib.Core.Path.{_≡_, refl, sym, ap, ap₂, _∙_}
 use mathlib.Core.Bool.{Bool, true, false}
 use mathlib.Core.List.{List, [], _∷_, _++_}
 use Prim.Native.Nat.{ℕ, zero, suc, _+_, _-_, _*_, _/_, _%_, _≤_, _<_}
@@ -17,8 +17,9 @@ use Rattle.text.specs.Hex.{octetsOf}
 use Rattle.labels.specs.declared.spelling.Next.the-variants.{Octet, Digit, Behind}
 use Rattle.labels.specs.Codes.{codeLength}
 use Rattle.labels.specs.Spelling.{Gap, nothing, space, hyphen, gapText, Case, small, capital, digitIn, Style, later, behind, inPrint}
-use Rattle.labels.specs.Reading.{separator, hexDigit, spellsOn, spells, digitsIn, octetsIn, judged, readLabel}
-use Rattle.labels.proofs.Texts.{never, digit-separator}
+use Rattle.labels.specs.Reading.{separator, hexDigit, spells, digitsIn, octetsIn, judged, readLabel}
+use Rattle.labels.specs.Code.{spellsOn}
+use Rattle.labels.proofs.Texts.{never, digit-separator, spells-on}
 
 -- ---- a digit
 
@@ -107,14 +108,14 @@ behind-goes p (x ∷ s) o =
 -- octets in print, one at least, spell these octets
 pub style-spells : (p : Style) (x : ℕ) (s : List ℕ) → Octets (x ∷ s)
     → (spells (inPrint p (x ∷ s)) ≡ true) × (octetsIn (inPrint p (x ∷ s)) ≡ x ∷ s)
-unfolding inPrint spells octetsIn
+unfolding inPrint octetsIn
 style-spells p x s o =
     let w = led (p .high 0) (p .low 0) x (behind (later p) s) s (o .octet 0) (behind-goes (later p) s (tail-octets o)) in
-    (w .whole, w .octets)
+    (spells-on _ ∙ w .whole, w .octets)
 
 -- octets in print are judged as these octets
 pub any-style : (p : Style) (o : List ℕ) → Octets o → readLabel (inPrint p o) ≡ judged o
-unfolding inPrint readLabel spells spellsOn judged codeLength
+unfolding inPrint readLabel spells judged codeLength
 any-style p [] o = refl
 any-style p (x ∷ s) o = let w = style-spells p x s o in rw (w .0, w .1)
 
@@ -233,5 +234,4 @@ styled (c ∷ s) =
 
 -- a text that spells octets is these octets in print
 pub some-style : (s : List ℕ) → spells s ≡ true → InStyle s
-unfolding spells
-some-style s e = styled s .octet e
+some-style s e = styled s .octet (sym (spells-on s) ∙ e)

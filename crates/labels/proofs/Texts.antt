@@ -10,13 +10,16 @@ use lib.Dec.{eqb}
 use lib.ListN.{length, getD, set, take, drop, drop-of-length-le, length-drop, length-set}
 use lib.Seq.{take-length}
 use borrow.Author.Tests.{eqb-true, le-ltb}
+use Rattle.octets.specs.Choice.{if_then_else_, both}
+use Rattle.octets.proofs.Choices.{both-true}
 use Rattle.octets.proofs.Tabs.{drop-step}
 use Rattle.octets.specs.Lists.{onto}
 use Rattle.text.proofs.Placed.{front-more}
 use Rattle.text.specs.Digits.{digitOf}
 use Rattle.labels.specs.declared.spelling.Next.{Next}
 use Rattle.labels.specs.declared.spelling.Next.the-variants.{Octet, Digit, Behind, Wrong}
-use Rattle.labels.specs.Reading.{separator, hexDigit, spellsOn, digitsIn}
+use Rattle.labels.specs.Reading.{separator, hexDigit, spells, digitsIn}
+use Rattle.labels.specs.Code.{spellsOn}
 
 pub never : {A : Type 0} → _≡_ {A = Bool} false true → A
 never e = let z : _≡_ {A = ℕ} 0 1 = cc in absurd (omega arith)
@@ -41,6 +44,19 @@ digit-separator c e = go (separator c) refl
     go false q = q
 
 -- ---- what is left spells on
+
+both-false : (t : Bool) → both t false ≡ false
+both-false true = refl
+both-false false = refl
+
+-- at first an octet is to come
+pub spells-on : (s : List ℕ) → spells s ≡ spellsOn s Octet
+unfolding spells spellsOn
+spells-on [] = refl
+spells-on (a ∷ []) = sym (both-false (hexDigit a))
+spells-on (a ∷ b ∷ []) = ap (both (hexDigit a)) (sym (both-true (hexDigit b)))
+spells-on (a ∷ b ∷ c ∷ s) =
+    ap (λ t. both (hexDigit a) (both (hexDigit b) t)) (ap₂ (λ t u. if separator c then t else u) (spells-on s) (spells-on (c ∷ s)))
 
 pub wrong-stays : (s : List ℕ) → spellsOn s Wrong ≡ false
 unfolding spellsOn
@@ -70,7 +86,7 @@ module _ (s : List ℕ) (i : ℕ) where
   unfolding digitsIn
   digits-end h = rw (drop-of-length-le s h)
 
--- nothing is left behind the last octet of a text
+-- nothing is left behind the last place of a text
 pub spells-end : (s : List ℕ) (i : ℕ) (n : Next) → length s ≤ i → spellsOn (drop i s) n ≡ spellsOn [] n
 spells-end s i n h = ap (λ l. spellsOn l n) (drop-of-length-le s h)
 

@@ -4,3 +4,4 @@ pub mod Spelling
 pub mod Answers
 pub mod Reading
 pub mod Printing
+pub mod Code

@@ -10,8 +10,6 @@ use Rattle.octets.specs.Choice.{if_then_else_, both}
 use Rattle.octets.specs.Lists.{at, tab, eqList}
 use Rattle.text.specs.Digits.{digitOf}
 use Rattle.text.specs.Hex.{octetsOf}
-use Rattle.labels.specs.declared.spelling.Next.{Next}
-use Rattle.labels.specs.declared.spelling.Next.the-variants.{Octet, Digit, Behind, Wrong}
 use Rattle.labels.specs.Codes.{codeLength, withCrc, linkKey}
 use Rattle.labels.specs.Answers.{Reading, reading, coded, noCode}
 
@@ -25,21 +23,12 @@ separator c = if eqb c 0x20 then true else eqb c 0x2d
 unfoldable pub hexDigit : ℕ → Bool
 hexDigit c = ltb (digitOf c) 16
 
--- An octet is two digits. Behind it comes the end, the next octet, or one separator and then the next octet. Whether a text
--- goes on so, by what is to come next: an octet, the second digit of one, or what is behind one; nothing is right any more
--- where something was wrong.
-unfoldable pub spellsOn : List ℕ → Next → Bool
-spellsOn [] Octet = false
-spellsOn [] Digit = false
-spellsOn [] Behind = true
-spellsOn [] Wrong = false
-spellsOn (c ∷ s) Octet = both (hexDigit c) (spellsOn s Digit)
-spellsOn (c ∷ s) Digit = both (hexDigit c) (spellsOn s Behind)
-spellsOn (c ∷ s) Behind = if separator c then spellsOn s Octet else both (hexDigit c) (spellsOn s Digit)
-spellsOn (c ∷ s) Wrong = false
-
+-- Octets, one at least, each of two digits. Behind an octet stands the end, or one separator and further octets, or these at once.
 unfoldable pub spells : List ℕ → Bool
-spells s = spellsOn s Octet
+spells [] = false
+spells (a ∷ []) = false
+spells (a ∷ b ∷ []) = both (hexDigit a) (hexDigit b)
+spells (a ∷ b ∷ c ∷ s) = both (hexDigit a) (both (hexDigit b) (if separator c then spells s else spells (c ∷ s)))
 
 -- its digits: all but the separators
 unfoldable pub digitsIn : List ℕ → List ℕ

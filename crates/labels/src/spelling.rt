@@ -1,11 +1,12 @@
 // The text of a label: whether it spells octets, and its digits.
 ghost use mathlib.Core.Path.{_≡_};
 ghost use mathlib.Core.Bool.{true};
-ghost use mathlib.Core.List.{List, _∷_};
+ghost use mathlib.Core.List.{List, [], _∷_};
 ghost use Prim.Native.Nat.{ℕ, _≤_};
 ghost use lib.ListN.{length};
 ghost use Rattle.octets.specs.Lists.{onto};
-ghost use Rattle.labels.specs.Reading.{separator, hexDigit, spellsOn, spells as Reading·spells, digitsIn};
+ghost use Rattle.labels.specs.Reading.{separator, hexDigit, spells as Reading·spells, digitsIn};
+ghost use Rattle.labels.specs.Code.{spellsOn};
 
 // What is to come next in a text: an octet, the second digit of one, or what is behind one; or that
 // something was wrong.
@@ -16,7 +17,7 @@ pub enum Next {
     Wrong,
 }
 
-// Whether s spells octets. A text ends behind one.
+// Whether s spells octets.
 pub(crate) fn spells(s: &[u8]) -> bool
     ensures { λ r. ⌜ r ≡ Reading·spells (now (s .entry)) ⌝ }
 {
@@ -24,6 +25,13 @@ pub(crate) fn spells(s: &[u8]) -> bool
     for i in 0..s.len() {
         next = step(next, s[i]);
     }
+    may_end(next)
+}
+
+// A text ends behind an octet.
+fn may_end(next: Next) -> bool
+    ensures { λ r. ⌜ r ≡ spellsOn [] next ⌝ }
+{
     match next {
         Next::Octet => false,
         Next::Digit => false,

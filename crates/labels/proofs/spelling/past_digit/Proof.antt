@@ -1,6 +1,6 @@
 -- Each case goes on as the definition does with a digit, which is no separator.
 use borrow.Author.Needs.{needs}
-use Rattle.labels.specs.Reading.{spellsOn}
+use Rattle.labels.specs.Code.{spellsOn}
 use Rattle.labels.proofs.Texts.{digit-separator, wrong-stays}
 use Rattle.labels.proofs.spelling.past_digit.Statement.{statement}
 use Rattle.labels.proofs.spelling.past_digit.Tie as tie

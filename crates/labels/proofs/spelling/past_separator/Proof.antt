@@ -1,6 +1,6 @@
 -- Each case goes on as the definition does with a separator, which is no digit.
 use borrow.Author.Needs.{needs}
-use Rattle.labels.specs.Reading.{spellsOn}
+use Rattle.labels.specs.Code.{spellsOn}
 use Rattle.labels.proofs.Texts.{separator-digit, wrong-stays}
 use Rattle.labels.proofs.spelling.past_separator.Statement.{statement}
 use Rattle.labels.proofs.spelling.past_separator.Tie as tie
