@@ -60,7 +60,8 @@ def kit_tools():
     if not home:
         rt = shutil.which("rt")
         if rt is None:
-            give_up("rt is not found: put the Rattle kit on the path, or give --bench COMMAND")
+            give_up("rt is not found: put the Rattle kit on the path, or give --bench COMMAND"
+                    " (desk.py: --model)")
         home = Path(rt).resolve().parent.parent
     return Path(home) / "on" / platform.machine() / "toolchain"
 
@@ -92,6 +93,16 @@ def bench_words(command):
     return words
 
 
+def surroundings():
+    """The environment of a bench. The emulator is not to be steered by whatever is set; and it is
+    ten times faster where the C library copies by plain loads, since it runs the processor's own
+    copying octet by octet."""
+    kept = {k: v for k, v in os.environ.items() if not k.startswith("QEMU_")}
+    if platform.machine() != "x86_64":
+        kept["GLIBC_TUNABLES"] = "glibc.cpu.hwcaps=-ERMS,-FSRM"
+    return kept
+
+
 # ---- a process ---------------------------------------------------------------------------------
 
 class Bench:
@@ -99,10 +110,9 @@ class Bench:
 
     def __init__(self, words, name="bench", log=False):
         self.name, self.log, self.lines = name, log, 0
-        kept = {k: v for k, v in os.environ.items() if not k.startswith("QEMU_")}
         try:
             self.process = subprocess.Popen(words, stdin=subprocess.PIPE, stdout=subprocess.PIPE,
-                                            env=kept)
+                                            env=surroundings())
         except OSError as fault:
             give_up(f"{words[0]} can't be started: {fault.strerror}")
 

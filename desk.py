@@ -1,34 +1,62 @@
-"""Runs the bench on a script and shows each line with its answer below it.
+"""Opens a sniffer's capture with the keys on the label, or runs the bench on a script.
 
+    python3 desk.py examples/first-capture.pcapng \\
+        --label "83 FE D3 40 7A 93 97 23 A5 C6 39 B2 69 16 D5 05 C3 B5"
     python3 desk.py examples/first-lesson.bench
     python3 desk.py                              # lines from the keyboard or a pipe
 
-Where the program is not built yet, it is proved and built first (`rt check bench`, some minutes; each function is named as
-it is proved). `--bench COMMAND` takes another program that speaks the bench language.
+A capture (pcap or pcapng, gzip or not) gives a log with one line for each frame, docs/CAPTURE.md; a
+script is shown line by line with the answers, docs/BENCH.md. Where the bench is not built yet, it
+is proved and built first (`rt check bench`, some minutes; each function is named as it is proved).
 """
 
 import argparse
+import os
 import shutil
 import subprocess
 import sys
 
-from bench_pipe import BENCH_HELP, PROGRAM, ROOT, Bench, bench_words, in_words, readable
+from bench_pipe import (BENCH_HELP, PROGRAM, ROOT, Bench, Differs, bench_words, give_up, in_words,
+                        readable)
+from capture import files, keys, show
 
+MODEL = [sys.executable, str(ROOT / "independent"), "bench", "--answer"]
+NO_KIT = ("rt is not found: put the Rattle kit on the path, or add --model, which runs the reference"
+          " in plain Python; its verdicts are not the proved ones.")
+PROVED = "These verdicts are the proved program's."
+REFERENCE = "These verdicts are the reference's and not the proved ones."
+OTHERS = "These verdicts are those of the program that --bench names."
+CAPTURE_NAMES = (".pcap", ".pcapng", ".cap", ".gz")
+READER_GONE = 141  # the exit code where whoever read what is printed has gone
+
+
+# ---- the bench ---------------------------------------------------------------------------------
 
 def build():
-    """Proves and builds the program where it is missing; whether it is there then."""
+    """Proves and builds the program where it is missing, or gives up."""
     if PROGRAM.is_file():
-        return True
+        return
     if shutil.which("rt") is None:
-        print("rt is not found: put the Rattle kit on the path.")
-        return False
-    print("The bench is proved and built first; this takes some minutes.", flush=True)
-    if subprocess.run(["rt", "check", "bench"], cwd=ROOT, check=False).returncode != 0:
-        return False
+        give_up(NO_KIT)
+    show.message("The bench is proved and built first; this takes some minutes.")
+    built = subprocess.run(["rt", "check", "bench"], cwd=ROOT, check=False, stdout=sys.stderr)
+    if built.returncode != 0:
+        give_up("The bench could not be proved and built; --model does without it.")
     if not PROGRAM.is_file():
-        print("It is proved, but target/bin/bench was removed: remove target/ and run this again.")
-    return PROGRAM.is_file()
+        give_up("target/bin/bench was removed: remove target/ and run this again.")
 
+
+def words_of(given):
+    """The words that start a bench, and whose its answers are."""
+    if given.model:
+        return MODEL, REFERENCE
+    if given.bench is not None:
+        return bench_words(given.bench), OTHERS
+    build()
+    return bench_words(None), PROVED
+
+
+# ---- a script ----------------------------------------------------------------------------------
 
 def play(lines, bench, echo):
     """Sends each line as it comes and prints its answer; comments and empty lines have none."""
@@ -41,22 +69,83 @@ def play(lines, bench, echo):
             print("    " + readable(answer), flush=True)
 
 
-def main():
-    """Reads the arguments, builds, plays; the exit code."""
-    parser = argparse.ArgumentParser(description=__doc__.split("\n", maxsplit=1)[0])
-    parser.add_argument("script", nargs="?", help="a file of lines (without it: standard input)")
-    parser.add_argument("--bench", metavar="COMMAND", help=BENCH_HELP)
-    given = parser.parse_args()
-    source = sys.stdin.buffer if given.script is None else open(given.script, "rb")
+def run_script(given):
+    """Plays a script; the exit code."""
+    source = sys.stdin.buffer if given.file is None else open(given.file, "rb")
     with source:
-        if given.bench is None and not build():
-            return 1
-        bench = Bench(bench_words(given.bench))
+        words, whose = words_of(given)
+        if given.model:
+            print(f"# {whose}", flush=True)
+        bench = Bench(words)
         try:
-            play(source, bench, given.script is not None or not sys.stdin.isatty())
+            play(source, bench, given.file is not None or not sys.stdin.isatty())
         finally:
             bench.close()
     return 0
+
+
+# ---- a capture ---------------------------------------------------------------------------------
+
+def run_capture(given):
+    """Shows a capture; the exit code."""
+    if given.frames:
+        return show.frames(given.file)
+    files.Capture(given.file).close()  # what is no capture is said before anything is built
+    words, whose = words_of(given)
+    bench = Bench(words)
+    try:
+        labels = [keys.label_key(bench, text) for text in given.label]
+    finally:
+        bench.close()
+    return show.show(given, lambda: Bench(words), labels, whose)
+
+
+def asks_for_capture(given):
+    """Whether a capture is meant: by what is asked for, the file's name, or its first octets."""
+    if (given.label or given.network_key or given.link_key or given.tsv or given.frames
+            or given.report or given.annotate):
+        return True
+    return given.file is not None and (given.file.endswith(CAPTURE_NAMES)
+                                       or files.looks_like_one(given.file))
+
+
+# ---- the whole ---------------------------------------------------------------------------------
+
+def arguments():
+    """What was asked for."""
+    parser = argparse.ArgumentParser(description=__doc__.split("\n", maxsplit=1)[0])
+    add = parser.add_argument
+    add("file", nargs="?", help="a capture, or a file of lines (without it: standard input)")
+    add("--label", metavar="TEXT", action="append", default=[],
+        help="the code on a device's label, with its CRC; may be given again")
+    add("--network-key", metavar="NUMBER:HEX", type=keys.network_key, action="append", default=[],
+        help="a network key that is known, behind its sequence number; may be given again")
+    add("--link-key", metavar="ADDRESS:HEX", type=keys.link_key, action="append", default=[],
+        help="a device's link key that is known, behind its address; may be given again")
+    add("--tsv", action="store_true", help="seven fields a frame, parted by tabs, and nothing else")
+    add("--report", metavar="FILE.html", help="also write a page: counters over time, and the log")
+    add("--annotate", metavar="FILE.pcapng", help="also write the capture with verdicts in comments")
+    add("--frames", action="store_true", help="print only the network frames, as frame<TAB>hex")
+    source = parser.add_mutually_exclusive_group()
+    source.add_argument("--model", action="store_true",
+                        help="ask the reference in plain Python: no kit, and nothing proved")
+    source.add_argument("--bench", metavar="COMMAND", help=BENCH_HELP)
+    given = parser.parse_args()
+    if given.file is None and asks_for_capture(given):
+        parser.error("which capture? Name its file")
+    return given
+
+
+def main():
+    """Shows a capture or plays a script; the exit code."""
+    given = arguments()
+    try:
+        return run_capture(given) if asks_for_capture(given) else run_script(given)
+    except (files.NoCapture, keys.NoLabel, Differs) as fault:
+        give_up(str(fault))
+    except BrokenPipeError:
+        os.dup2(os.open(os.devnull, os.O_WRONLY), sys.stdout.fileno())
+        return READER_GONE
 
 
 if __name__ == "__main__":

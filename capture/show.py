@@ -1,0 +1,111 @@
+"""A capture shown: as the log, as lines for a machine, as a page, and written again with comments."""
+
+import os
+import sys
+from contextlib import ExitStack, closing
+
+from . import files, links, mac
+from .annotate import Annotated
+from .listener import Listener
+from .log import Log
+from .report import Report
+from .words import advice, in_words, tsv
+
+BROKE_OFF, NOTHING = 1, 2  # exit codes
+
+
+def message(words):
+    """Says something beside what is printed."""
+    sys.stdout.flush()
+    print(words, file=sys.stderr, flush=True)
+
+
+def packets(capture, code):
+    """The frames of a capture; where it breaks off, that is said and the exit code is told."""
+    try:
+        yield from capture.packets()
+    except files.BrokeOff as fault:
+        code.append(BROKE_OFF if capture.number else NOTHING)
+        message(f"{capture.path}: {fault}. "
+                + (f"The {capture.number} frames before that were read." if capture.number
+                   else "No frame could be read."))
+
+
+def frames(path):
+    """Prints the network frames of a capture; the exit code."""
+    code = []
+    with closing(files.Capture(path)) as capture:
+        for packet in packets(capture, code):
+            try:
+                frame = mac.read(links.frame_of(packet))
+            except links.Passed:
+                continue
+            if frame.name is None:
+                print(f"frame\t{frame.payload.hex()}")
+    return max(code, default=0)
+
+
+def outputs_apart(path, *outputs):
+    """Refuses to write over the capture, or twice to one file."""
+    named = [path, *(output for output in outputs if output)]
+    real = [os.path.realpath(name) for name in named]
+    for place, name in enumerate(named[1:], 1):
+        if real[place] in real[:place]:
+            raise files.NoCapture(f"{name} would be written over")
+
+
+class Shown:
+    """Where the frames of a capture go: the log or lines, and the files that were asked for."""
+
+    def __init__(self, given, capture, whose, stack):
+        self.tsv, self.whose, self.counts = given.tsv, whose, {}
+        self.log = Log(print, sys.stdout.isatty() and "NO_COLOR" not in os.environ)
+        self.annotated = self.report = None
+        if given.annotate:
+            self.annotated = stack.enter_context(closing(Annotated(given.annotate, capture)))
+        if given.report:
+            self.report = Report(given.report, given.file, whose)
+
+    def head(self):
+        """Says first whose verdicts these are."""
+        if self.tsv:
+            message(self.whose)
+        else:
+            self.log.head(self.whose)
+
+    def frame(self, packet, heard):
+        """A frame and what was found."""
+        if self.tsv:
+            self.log.count(heard)
+            print(tsv(heard))
+        else:
+            self.log.frame(heard)
+        if self.annotated:
+            self.annotated.write(packet, f"{in_words(heard)} ({self.whose})")
+        if self.report:
+            self.report.frame(heard)
+
+    def end(self, listener):
+        """What stands at the end."""
+        if not self.tsv:
+            self.log.end(listener)
+        if self.report:
+            self.report.write(self.log.counts, listener)
+        for words in advice(self.log.counts, listener):
+            message(words)
+
+
+def show(given, start, labels, whose):
+    """Listens to a capture; the exit code."""
+    outputs_apart(given.file, given.annotate, given.report)
+    code = []
+    with ExitStack() as stack:
+        capture = stack.enter_context(closing(files.Capture(given.file)))
+        listener = stack.enter_context(
+            closing(Listener(start, labels, given.network_key, given.link_key)))
+        shown = Shown(given, capture, whose, stack)
+        shown.head()
+        for packet in packets(capture, code):
+            shown.frame(packet, listener.hear(packet))
+        shown.end(listener)
+    return max(code, default=0)
