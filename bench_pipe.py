@@ -20,6 +20,7 @@ if sys.version_info < (3, 10):
 ROOT = Path(__file__).resolve().parent
 PROGRAM = ROOT / "target" / "bin" / "bench"
 PATIENCE = 60  # seconds until an answer that doesn't come is given up
+POLLED = os.name == "posix"  # elsewhere a pipe can't be waited for, and its answer must come
 BENCH_HELP = ("the command that starts a bench, as one string "
               "(without it: target/bin/bench of this repository)")
 
@@ -139,7 +140,7 @@ class Bench:
 
     def answer(self, line):
         """The line that the process writes next."""
-        if not select.select([self.process.stdout], [], [], PATIENCE)[0]:
+        if POLLED and not select.select([self.process.stdout], [], [], PATIENCE)[0]:
             raise Differs(f"{self.name} gave no answer in {PATIENCE} s to: {readable(line)}")
         answer = self.process.stdout.readline()
         if not answer.endswith(b"\n"):

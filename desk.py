@@ -15,6 +15,7 @@ import os
 import shutil
 import subprocess
 import sys
+from contextlib import closing
 
 from bench_pipe import (BENCH_HELP, PROGRAM, ROOT, Bench, Differs, bench_words, give_up, in_words,
                         readable)
@@ -23,9 +24,6 @@ from capture import files, keys, show
 MODEL = [sys.executable, str(ROOT / "independent"), "bench", "--answer"]
 NO_KIT = ("rt is not found: put the Rattle kit on the path, or add --model, which runs the reference"
           " in plain Python; its verdicts are not the proved ones.")
-PROVED = "These verdicts are the proved program's."
-REFERENCE = "These verdicts are the reference's and not the proved ones."
-OTHERS = "These verdicts are those of the program that --bench names."
 CAPTURE_NAMES = (".pcap", ".pcapng", ".cap", ".gz")
 READER_GONE = 141  # the exit code where whoever read what is printed has gone
 
@@ -49,11 +47,11 @@ def build():
 def words_of(given):
     """The words that start a bench, and whose its answers are."""
     if given.model:
-        return MODEL, REFERENCE
+        return MODEL, show.REFERENCE
     if given.bench is not None:
-        return bench_words(given.bench), OTHERS
+        return bench_words(given.bench), show.OTHERS
     build()
-    return bench_words(None), PROVED
+    return bench_words(None), show.PROVED
 
 
 # ---- a script ----------------------------------------------------------------------------------
@@ -76,28 +74,23 @@ def run_script(given):
         words, whose = words_of(given)
         if given.model:
             print(f"# {whose}", flush=True)
-        bench = Bench(words)
-        try:
+        with closing(Bench(words)) as bench:
             play(source, bench, given.file is not None or not sys.stdin.isatty())
-        finally:
-            bench.close()
     return 0
 
 
 # ---- a capture ---------------------------------------------------------------------------------
 
 def run_capture(given):
-    """Shows a capture; the exit code."""
-    if given.frames:
-        return show.frames(given.file)
-    files.Capture(given.file).close()  # what is no capture is said before anything is built
-    words, whose = words_of(given)
-    bench = Bench(words)
-    try:
-        labels = [keys.label_key(bench, text) for text in given.label]
-    finally:
-        bench.close()
-    return show.show(given, lambda: Bench(words), labels, whose)
+    """Shows a capture; the exit code. What is no capture is said before anything is built."""
+    with closing(files.Capture(given.file)) as capture:
+        if given.frames:
+            return show.frames(capture)
+        show.outputs_apart(given)
+        words, whose = words_of(given)
+        with closing(Bench(words)) as bench:
+            labels = [keys.label_key(bench, text) for text in given.label]
+        return show.show(given, capture, lambda: Bench(words), labels, whose)
 
 
 def asks_for_capture(given):
@@ -138,6 +131,7 @@ def arguments():
 
 def main():
     """Shows a capture or plays a script; the exit code."""
+    sys.stdout = sys.stdout or open(os.devnull, "w", encoding="ascii")  # it was closed
     given = arguments()
     try:
         return run_capture(given) if asks_for_capture(given) else run_script(given)

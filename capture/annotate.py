@@ -3,6 +3,7 @@
 import struct
 
 from .files import ENHANCED_PACKET, INTERFACE, RESOLUTION, SIMPLE_PACKET
+from .links import WITH_CHECKSUM
 
 COMMENT, END = 1, 0
 SECTION_TYPE, ORDER_MAGIC = 0x0A0D0D0A, 0x1A2B3C4D
@@ -73,5 +74,7 @@ class Annotated:
         return block(order, kind, body[:end] + commented(order, body[end:], comment))
 
     def close(self):
-        """Closes the file."""
+        """Closes the file, which has a section even where the capture has no frame."""
+        if not self.started:
+            self.file.write(section_and_interface(WITH_CHECKSUM))
         self.file.close()

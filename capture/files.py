@@ -5,11 +5,12 @@ three kinds of packet blocks, as the pcap drafts of the IETF's opsawg describe t
 ahead of the frame that is asked for, so that a file of any length takes the same memory.
 """
 
+import os
 import struct
 import zlib
 from dataclasses import dataclass
 
-GZIP = b"\x1f\x8b"
+GZIP, GZIP_MEMBER = b"\x1f\x8b", 31  # how a member starts, and zlib's name for its format
 SECTION = b"\x0a\x0d\x0d\x0a"  # the type of a section header block: the same in either order
 PCAP_MAGICS = {  # by the first four octets: the byte order, and nanoseconds for a unit of time
     b"\xd4\xc3\xb2\xa1": ("<", 1000), b"\xa1\xb2\xc3\xd4": (">", 1000),
@@ -21,6 +22,7 @@ END, FLAGS, RESOLUTION, OFFSET = 0, 2, 9, 14                        # codes of t
 CHECKSUM_WRONG = 1 << 24                                            # a bit of a packet's flags
 RECORD_MOST = 262144        # octets of a pcap record: more is damage, as to Wireshark
 BLOCK_MOST = 16 * 1024**2   # octets of a pcapng block, likewise
+INTERFACES_MOST = 1 << 16   # interfaces of a section: they are kept, and a file may have any length
 PIECE = 65536               # octets that are unpacked at a time
 SECOND = 10**9              # times are nanoseconds
 
@@ -70,7 +72,10 @@ class Interface:
 # ---- the file ----------------------------------------------------------------------------------
 
 def looks_like_one(path):
-    """Whether a file starts as a capture does."""
+    """Whether a file starts as a capture does. A pipe is not looked into: what is read of it is
+    gone."""
+    if os.path.exists(path) and not os.path.isfile(path):
+        return False
     with open(path, "rb") as file:
         first = file.read(4)
     return first == SECTION or first in PCAP_MAGICS or first[:2] == GZIP
@@ -80,9 +85,9 @@ class Unpacked:
     """A gzip file, unpacked as it is read. The library's own reader loses what it has unpacked
     where the file breaks off; here all of it is handed out first."""
 
-    def __init__(self, file):
+    def __init__(self, file, first):
         self.file, self.ready, self.fault, self.ended = file, bytearray(), None, False
-        self.member, self.left = zlib.decompressobj(31), b""
+        self.member, self.left = zlib.decompressobj(GZIP_MEMBER), first
 
     def read(self, count):
         """The next octets, fewer than asked for only at the file's end."""
@@ -95,20 +100,31 @@ class Unpacked:
         return octets
 
     def unpack(self, packed):
-        """Unpacks a piece; a file may have several members, one behind the other."""
+        """Unpacks a piece; a file may have several members, and zeros behind each."""
         if self.member.eof:
-            self.ended = not packed.startswith(GZIP[:1])
-            self.member = zlib.decompressobj(31)
-        elif not packed:
-            self.ready += self.member.flush()
-            self.ended, self.fault = True, "the packed file ends in the middle"
-        if self.ended:
+            self.left, self.ended = packed.lstrip(b"\0"), not packed
+            self.member = zlib.decompressobj(GZIP_MEMBER) if self.left else self.member
             return
+        before = self.member.copy()
         try:
-            self.ready += self.member.decompress(packed, PIECE)
+            fresh = self.member.decompress(packed, PIECE)
         except zlib.error:
-            self.ended, self.fault = True, "the packed file is damaged"
+            self.unpack_sound(before, packed)
+            return
+        self.ready += fresh
         self.left = self.member.unused_data or self.member.unconsumed_tail
+        if not packed and not fresh:
+            self.ended, self.fault = True, "the packed file ends in the middle"
+
+    def unpack_sound(self, member, packed):
+        """Unpacks octet by octet what stands before the damage in a piece, of which the library
+        hands out nothing."""
+        self.ended, self.fault = True, "the packed file is damaged"
+        try:
+            for place in range(len(packed)):
+                self.ready += member.decompress(packed[place:place + 1])
+        except zlib.error:
+            pass
 
     def close(self):
         """Closes the file."""
@@ -121,15 +137,24 @@ class Capture:
     def __init__(self, path):
         self.path, self.number, self.time = path, 0, 0
         self.passed_on = lambda block: None
-        file = open(path, "rb")
-        self.file = Unpacked(file) if file.peek(2)[:2] == GZIP else file
+        self.file = open(path, "rb")
         try:
-            self.first = self.file.read(4)
+            self.first = self.start()
         except BrokeOff as fault:
+            self.close()
             raise NoCapture(f"{path}: {fault}") from None
         self.pcapng = self.first == SECTION
         if not self.pcapng and self.first not in PCAP_MAGICS:
+            self.close()
             raise NoCapture(f"{path} is {'no pcap or pcapng file' if self.first else 'empty'}")
+
+    def start(self):
+        """The first octets, unpacked where they are packed."""
+        first = self.file.read(4)
+        if not first.startswith(GZIP):
+            return first
+        self.file = Unpacked(self.file, first)
+        return self.file.read(4)
 
     def close(self):
         """Closes the file."""
@@ -173,7 +198,8 @@ class Capture:
         """The frames of a pcapng file, block by block."""
         order, interfaces, head = None, [], self.first
         while head:
-            what = f"the block behind frame {self.number}" if self.number else "one of its first blocks"
+            what = (f"the block behind frame {self.number}" if self.number
+                    else "one of its first blocks")
             if self.whole(4, what, head) == SECTION:
                 order, interfaces = self.section(what), []
             else:
@@ -181,6 +207,8 @@ class Capture:
                 if block.kind in PACKETS:
                     yield self.packet(block, interfaces, what)
                 elif block.kind == INTERFACE:
+                    if len(interfaces) == INTERFACES_MOST:
+                        raise BrokeOff(f"the file is damaged: {what} is one interface too many")
                     interfaces.append(interface(order, block.body, what))
             head = self.file.read(4)
 
@@ -224,7 +252,7 @@ class Capture:
         if block.kind != SIMPLE_PACKET:
             self.time = known.time(high << 32 | low)
         octets, rest = body[start:start + stored], body[start + stored + -stored % 4:]
-        spoilt = block.kind == ENHANCED_PACKET and bool(flags(order, rest) & CHECKSUM_WRONG)
+        spoilt = block.kind != SIMPLE_PACKET and bool(flags(order, rest) & CHECKSUM_WRONG)
         return Packet(self.next_number(), self.time, known.link, octets, max(length, stored),
                       spoilt, block)
 
@@ -247,12 +275,14 @@ def ended(order, size, octets, what):
 
 def options(order, octets):
     """The codes and values of a block's options; what is cut is left out."""
-    while len(octets) >= 4:
-        code, size = struct.unpack_from(order + "HH", octets)
-        if code == END or len(octets) < 4 + size:
+    place = 0
+    while len(octets) >= place + 4:
+        code, size = struct.unpack_from(order + "HH", octets, place)
+        place += 4
+        if code == END or len(octets) < place + size:
             return
-        yield code, octets[4:4 + size]
-        octets = octets[4 + size + -size % 4:]
+        yield code, octets[place:place + size]
+        place += size + -size % 4
 
 
 def flags(order, octets):

@@ -9,7 +9,7 @@ import struct
 import zlib
 
 ETHERNET, WITH_CHECKSUM, WITHOUT_CHECKSUM, TAP = 1, 195, 230, 283
-VLANS, IPV4, IPV6, WPAN = (0x8100, 0x88A8), 0x0800, 0x86DD, 0x809A  # EtherTypes
+VLANS, IPV4, IPV6, WPAN = (0x8100, 0x88A8, 0x9100), 0x0800, 0x86DD, 0x809A  # EtherTypes
 UDP, ZEP_PORT = 17, 17754
 ETHERNET_LEAST = 60           # octets; a shorter frame is filled up
 CHECKSUM_TYPE = 0             # the TAP field that says what checksum follows the frame
@@ -87,15 +87,18 @@ def tapped(octets):
     version, size = struct.unpack_from("<BxH", octets)
     if version != 0 or not 4 <= size <= len(octets):
         raise Passed("no TAP header that is known")
-    fields, frame, kind = octets[4:size], octets[size:], 0
-    while len(fields) >= 4:
-        field, length = struct.unpack_from("<HH", fields)
-        if field == CHECKSUM_TYPE and length >= 1 and len(fields) >= 5:
-            kind = fields[4]
-        fields = fields[4 + length + -length % 4:]
+    place, kind = 4, 0
+    while size >= place + 4:
+        field, length = struct.unpack_from("<HH", octets, place)
+        place += 4
+        if size < place + length or field == CHECKSUM_TYPE and not length:
+            raise Passed("no TAP header that is known")
+        if field == CHECKSUM_TYPE:
+            kind = octets[place]
+        place += length + -length % 4
     if kind > 2:
         raise Passed(f"TAP, with checksum {kind}")
-    return (lambda whole: whole, checked, checked_long)[kind](frame)
+    return (lambda whole: whole, checked, checked_long)[kind](octets[size:])
 
 
 # ---- Ethernet ----------------------------------------------------------------------------------
@@ -107,7 +110,8 @@ def in_ethernet(octets):
         kind, start = int.from_bytes(octets[start + 2:start + 4], "big"), start + 4
     inside = octets[start:]
     if kind == WPAN:
-        return unfilled(inside) if len(octets) == ETHERNET_LEAST else checked(inside)
+        filled = ETHERNET_LEAST <= len(octets) <= ETHERNET_LEAST + start - 14
+        return checked(unfilled(inside) if filled else inside)
     if kind == IPV4:
         return zep(udp_in_ipv4(inside))
     if kind == IPV6:
@@ -116,18 +120,15 @@ def in_ethernet(octets):
 
 
 def unfilled(octets):
-    """A frame that may have been filled up with zeros to the least that Ethernet sends."""
-    for end in range(len(octets), 1, -1):
-        if checksum_fits(octets[:end]):
-            return octets[:end - 2]
-        if octets[end - 1]:
-            break
-    raise Passed("wrong checksum")
+    """A frame without the zeros that it may have been filled up with. The checksum fits with any
+    number of zeros behind it; one that itself ends with a zero, 1 in 256, can't be told from a
+    frame that is an octet shorter."""
+    return octets.rstrip(b"\0")
 
 
 def udp_in_ipv4(octets):
     """What UDP carries to or from ZEP's port in a packet of IPv4."""
-    if len(octets) < 20 or octets[0] >> 4 != 4 or octets[9] != UDP:
+    if len(octets) < 20 or not 0x45 <= octets[0] <= 0x4F or octets[9] != UDP:
         raise Passed("other Ethernet")
     size, part = struct.unpack_from(">H2xH", octets, 2)
     if part & 0x3FFF:

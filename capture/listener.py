@@ -9,7 +9,7 @@ from collections import OrderedDict
 from dataclasses import dataclass, field
 
 from . import headers, links, mac
-from .boards import ALIKE, LISTENER, Boards, Trial, fits, opened
+from .boards import ALIKE, Boards, Trial, fits, opened
 
 MOST_FIELD = 256            # octets of a frame in a bench line; what is longer is 2 by its length
 REMEMBERED = 4096           # opened frames of a layer that a replay is looked for among
@@ -166,11 +166,13 @@ class Listener:
         """Asks about the APS frame in a network frame."""
         sender = sender_of(pan, header, octets)
         answer, key = self.boards(pan).open_aps(sender, octets)
-        if sender != LISTENER and answer[0] != "ok" and not fits(answer):
+        if sender is not None and answer[0] != "ok" and not fits(answer):
             answer, key = self.try_labels(heard, pan, sender, octets) or (answer, key)
         heard.aps = verdict(answer)
         if answer[0] != "ok":
             heard.repeats = self.links.find(heard, octets) if fits(answer) else None
+            if answer[1] == "6":
+                heard.notes.append(f"of {sender or 'a sender that is not known'}")
             return
         if opened(answer):
             self.own(pan)
@@ -235,12 +237,12 @@ def verdict(answer):
 
 
 def sender_of(pan, header, octets):
-    """The sender of a secured APS frame: as the frame says, else the long address of its source.
-    Where that isn't known, and for unsecured frames, a stand-in of which no key is known."""
+    """The sender of a secured APS frame: as the frame says, else the long address of its source,
+    if that is known."""
     if not headers.aps_secured(octets):
-        return LISTENER
+        return None
     _, sender = headers.counter_and_sender(octets, headers.aps_size(octets))
-    return sender or header.long_source or pan.longs.get(header.source, LISTENER)
+    return sender or header.long_source or pan.longs.get(header.source)
 
 
 def announced(pan, payload):

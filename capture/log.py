@@ -70,4 +70,4 @@ def heard_of(listener):
             for sender, floor in senders:
                 yield f"{where}, network key {number}: {sender} heard up to counter {floor - 1}"
         for partner, key, floor in known.boards.linked():
-            yield f"{where}, link key {key[:8]}…: {partner} heard up to counter {floor - 1}"
+            yield f"{where}, link key {key[:8]}..: {partner} heard up to counter {floor - 1}"

@@ -46,9 +46,10 @@ def read(octets):
     frame, start = addressed(octets, start, control, version == NEWEST)
     if control >> 3 & 1:
         frame.name = "secured MAC frame"
-    elif kind == DATA:
-        if version == NEWEST and control >> 9 & 1:
-            start = behind_elements(octets, start)
+        return frame
+    if version == NEWEST and control >> 9 & 1 and kind in (DATA, COMMAND):
+        start = behind_elements(octets, start)
+    if kind == DATA:
         frame.name, frame.payload = None, octets[start:]
     elif kind == COMMAND:
         frame.name = named(octets[start:start + 1])
@@ -83,7 +84,9 @@ def addressed(octets, start, control, newest):
 def with_pans(to, by, compressed, newest):
     """Whether the frame has the destination's PAN ID, and the source's."""
     if not newest:
-        return to != NONE, by != NONE and not (compressed and to != NONE)
+        if compressed and NONE in (to, by):
+            raise Passed("MAC frame with PAN ID compression and fewer than two addresses")
+        return to != NONE, by != NONE and not compressed
     if to == NONE and by == NONE:
         return bool(compressed), False
     if NONE in (to, by) or (to, by) == (LONG, LONG):
@@ -93,18 +96,22 @@ def with_pans(to, by, compressed, newest):
 
 
 def behind_elements(octets, start):
-    """Where the payload starts behind the information elements."""
-    end = None
-    while end != FRAME_FOLLOWS and start < len(octets):
+    """Where the payload starts behind the information elements. A list that nothing follows may
+    end without an element that says so."""
+    of_payload, more = False, True
+    while more:
         if len(octets) < start + 2:
             raise Passed("cut MAC header")
         element, = struct.unpack_from("<H", octets, start)
-        if end == PAYLOAD_FOLLOWS:
+        if element >> 15 != of_payload:
+            raise Passed("MAC frame with an information element out of place")
+        if of_payload:
             start += 2 + (element & 0x7FF)
-            end = FRAME_FOLLOWS if element >> 11 & 15 == ELEMENTS_END else end
+            more = element >> 11 & 15 != ELEMENTS_END and start < len(octets)
         else:
             start += 2 + (element & 0x7F)
-            end = element >> 7 & 0xFF if element >> 7 & 0xFF in (0x7E, 0x7F) else None
-    if start > len(octets):
+            of_payload = element >> 7 & 0xFF == PAYLOAD_FOLLOWS
+            more = of_payload or element >> 7 & 0xFF != FRAME_FOLLOWS and start < len(octets)
+    if len(octets) < start:
         raise Passed("cut MAC header")
     return start

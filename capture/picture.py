@@ -29,7 +29,7 @@ SHAPES = {
     "nokey": "m-4-4h8v8h-8z",
     "refused": "m-4.2 0a4.2 4.2 0 1 0 8.4 0a4.2 4.2 0 1 0-8.4 0zm2 0a2.2 2.2 0 1 1 4.4 0"
                "a2.2 2.2 0 1 1-4.4 0z",
-    "genuine": "m0-6.5l6 11h-12z",
+    "genuine": "m0-5.8l6.4 11.6h-12.8z",
     "altered": "m0-7l6 7l-6 7l-6-7z",
     "forged": "m0-2.1l3.5-3.5l2.1 2.1l-3.5 3.5l3.5 3.5l-2.1 2.1l-3.5-3.5l-3.5 3.5l-2.1-2.1l3.5-3.5"
               "l-3.5-3.5l2.1-2.1z",
@@ -204,12 +204,13 @@ class Panel:
 
     def bands(self):
         """The bands that have marks in them."""
-        for far, top, word in ((max(m.counter for m in self.marks) > self.high, TOP, "higher"),
-                               (min(m.counter for m in self.marks) < self.low, self.below, "lower")):
+        counters = [mark.counter for mark in self.marks]
+        for far, top, base, word in ((max(counters) > self.high, TOP, 9, "higher"),
+                                     (min(counters) < self.low, self.below, BAND - 1, "lower")):
             if far:
                 yield (f'<rect class="band" x="{LEFT}" y="{top}" width="{WIDTH - LEFT - RIGHT}" '
-                       f'height="{BAND}"/><text class="far" x="{LEFT - 8}" y="{top + BAND / 2 + 4}">'
-                       f'{word}</text>')
+                       f'height="{BAND}"/><text class="far" x="{LEFT - 8}" y="{top + base}">{word}'
+                       '</text>')
 
     def counter_axis(self):
         """Lines at round counters, each with its label."""

@@ -58,6 +58,7 @@ svg .far { text-anchor: end; font-style: italic }
 .cut { stroke: #444; stroke-dasharray: 4 3 }
 .floor { stroke: #1c1c1c; stroke-width: 1.5; fill: none }
 .under { fill: #f5f1e6 }
+svg g path { stroke-linejoin: round }
 svg .opened path { fill: var(--opened) }
 svg .genuine path { fill: var(--genuine); stroke: #1c1c1c }
 svg .altered path { fill: var(--altered); stroke: #1c1c1c }

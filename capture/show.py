@@ -12,6 +12,9 @@ from .report import Report
 from .words import advice, in_words, tsv
 
 BROKE_OFF, NOTHING = 1, 2  # exit codes
+PROVED = "These verdicts are the proved program's."
+REFERENCE = "These verdicts are the reference's and not the proved ones."
+OTHERS = "These verdicts are those of the program that --bench names."
 
 
 def message(words):
@@ -31,25 +34,24 @@ def packets(capture, code):
                    else "No frame could be read."))
 
 
-def frames(path):
+def frames(capture):
     """Prints the network frames of a capture; the exit code."""
     code = []
-    with closing(files.Capture(path)) as capture:
-        for packet in packets(capture, code):
-            try:
-                frame = mac.read(links.frame_of(packet))
-            except links.Passed:
-                continue
-            if frame.name is None:
-                print(f"frame\t{frame.payload.hex()}")
+    for packet in packets(capture, code):
+        try:
+            frame = mac.read(links.frame_of(packet))
+        except links.Passed:
+            continue
+        if frame.name is None:
+            print(f"frame\t{frame.payload.hex()}")
     return max(code, default=0)
 
 
-def outputs_apart(path, *outputs):
+def outputs_apart(given):
     """Refuses to write over the capture, or twice to one file."""
-    named = [path, *(output for output in outputs if output)]
+    named = [name for name in (given.file, given.annotate, given.report) if name]
     real = [os.path.realpath(name) for name in named]
-    for place, name in enumerate(named[1:], 1):
+    for place, name in enumerate(named):
         if real[place] in real[:place]:
             raise files.NoCapture(f"{name} would be written over")
 
@@ -58,8 +60,10 @@ class Shown:
     """Where the frames of a capture go: the log or lines, and the files that were asked for."""
 
     def __init__(self, given, capture, whose, stack):
-        self.tsv, self.whose, self.counts = given.tsv, whose, {}
-        self.log = Log(print, sys.stdout.isatty() and "NO_COLOR" not in os.environ)
+        self.tsv, self.whose = given.tsv, whose
+        self.mark = [] if whose == PROVED else [whose]
+        colours = sys.stdout.isatty() and os.name == "posix" and "NO_COLOR" not in os.environ
+        self.log = Log(print, colours)
         self.annotated = self.report = None
         if given.annotate:
             self.annotated = stack.enter_context(closing(Annotated(given.annotate, capture)))
@@ -81,7 +85,7 @@ class Shown:
         else:
             self.log.frame(heard)
         if self.annotated:
-            self.annotated.write(packet, f"{in_words(heard)} ({self.whose})")
+            self.annotated.write(packet, "; ".join([in_words(heard), *heard.notes, *self.mark]))
         if self.report:
             self.report.frame(heard)
 
@@ -95,12 +99,10 @@ class Shown:
             message(words)
 
 
-def show(given, start, labels, whose):
+def show(given, capture, start, labels, whose):
     """Listens to a capture; the exit code."""
-    outputs_apart(given.file, given.annotate, given.report)
     code = []
     with ExitStack() as stack:
-        capture = stack.enter_context(closing(files.Capture(given.file)))
         listener = stack.enter_context(
             closing(Listener(start, labels, given.network_key, given.link_key)))
         shown = Shown(given, capture, whose, stack)

@@ -22,6 +22,10 @@ The other way round, each frame is tried with each of its octets altered in one 
 layer: Wireshark must decipher none of those, and find no key for it. Where a layer's payload is
 empty 4.0.17 has nothing to decipher and looks at no tag; with one before 4.4 such lines say so.
 
+Then the shipped capture, examples/first-capture.pcapng: with the label's key alone Wireshark must
+decipher the frames that desk.py finds genuine, and no others, to what is inside, and show the
+verdicts of desk.py as comments.
+
 One line is printed for each frame, and at last `N frames, 0 differ`. The exit code is 0, 1 where
 something differs, 2 where tshark is missing or fails.
 """
@@ -35,6 +39,7 @@ from pathlib import Path
 
 sys.path.insert(0, str(Path(__file__).resolve().parent.parent))
 
+import wireshark_capture
 from bench_pipe import (BENCH_HELP, Bench, Differs, bench_words, flipped, give_up, in_words, least,
                         text)
 from named_tlvs import (ENCAPSULATION, FEATURES, FRAGMENTS, KEY_METHODS, METHODS, RELAY_MESSAGE,
@@ -495,8 +500,10 @@ def main():
     bench = Bench(bench_words(given.bench))
     try:
         cases = all_cases(bench, newer)
+        label_key = bench.unhexed(bench.so_many(2, "label", wireshark_capture.LABEL)[1])
         with tempfile.TemporaryDirectory() as folder:
             differ = compare(Path(folder), cases, given.keep, newer)
+            differ += wireshark_capture.compare(Path(folder), label_key, newer, given.bench)
     except Differs as difference:
         print(difference)
         return 1
