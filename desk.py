@@ -85,7 +85,7 @@ def run_capture(given):
     """Shows a capture; the exit code. What is no capture is said before anything is built."""
     with closing(files.Capture(given.file)) as capture:
         if given.frames:
-            return show.frames(capture)
+            return show.frames(capture, given.chip_checksum)
         show.outputs_apart(given)
         words, whose = words_of(given)
         with closing(Bench(words)) as bench:
@@ -96,7 +96,7 @@ def run_capture(given):
 def asks_for_capture(given):
     """Whether a capture is meant: by what is asked for, the file's name, or its first octets."""
     if (given.label or given.network_key or given.link_key or given.tsv or given.frames
-            or given.report or given.annotate):
+            or given.report or given.annotate or given.chip_checksum):
         return True
     return given.file is not None and (given.file.endswith(CAPTURE_NAMES)
                                        or files.looks_like_one(given.file))
@@ -119,6 +119,8 @@ def arguments():
     add("--report", metavar="FILE.html", help="also write a page: counters over time, and the log")
     add("--annotate", metavar="FILE.pcapng", help="also write the capture with verdicts in comments")
     add("--frames", action="store_true", help="print only the network frames, as frame<TAB>hex")
+    add("--chip-checksum", action="store_true", help="the sniffer's chip wrote signal strength and"
+        " its own verdict over the checksums (as TI's CC24xx do)")
     source = parser.add_mutually_exclusive_group()
     source.add_argument("--model", action="store_true",
                         help="ask the reference in plain Python: no kit, and nothing proved")

@@ -20,8 +20,9 @@ class Passed(Exception):
     """The frame is passed over; its name, or why."""
 
 
-def frame_of(packet):
-    """The frame of IEEE 802.15.4 in a stored one, its checksum found right and taken off."""
+def frame_of(packet, by_chip=False):
+    """The frame of IEEE 802.15.4 in a stored one, its checksum found right and taken off; by the
+    verdict that a chip wrote in the checksum's place, where that is so."""
     if len(packet.octets) < packet.length:
         raise Passed(f"cut: {len(packet.octets)} of {packet.length} octets")
     if packet.spoilt:
@@ -29,7 +30,7 @@ def frame_of(packet):
     if packet.link == WITHOUT_CHECKSUM:
         return packet.octets
     if packet.link == WITH_CHECKSUM:
-        return checked(packet.octets)
+        return checked_by_chip(packet.octets) if by_chip else checked(packet.octets)
     if packet.link == TAP:
         return tapped(packet.octets)
     if packet.link == ETHERNET:

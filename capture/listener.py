@@ -67,10 +67,11 @@ class Remembered:
 
 
 class Listener:
-    """Listens with the keys of labels, and with keys that are known; `start` starts a bench."""
+    """Listens with the keys of labels, and with keys that are known; `start` starts a bench, and
+    `by_chip` says that a chip's verdict stands in the checksum's place."""
 
-    def __init__(self, start, labels=(), network_keys=(), link_keys=()):
-        self.start, self.labels, self.link_keys = start, labels, link_keys
+    def __init__(self, start, labels=(), network_keys=(), link_keys=(), by_chip=False):
+        self.start, self.labels, self.link_keys, self.by_chip = start, labels, link_keys, by_chip
         self.trial, self.common, self.pans = Trial(start, network_keys), None, {}
         self.first_time = None
         self.networks, self.links = Remembered(), Remembered()
@@ -112,7 +113,7 @@ class Listener:
             self.first_time = packet.time
         heard = Heard(packet.number, packet.time - self.first_time)
         try:
-            frame = mac.read(links.frame_of(packet))
+            frame = mac.read(links.frame_of(packet, self.by_chip))
         except links.Passed as passed:
             heard.inside = str(passed)
             return heard

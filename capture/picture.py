@@ -18,17 +18,16 @@ LEFT, RIGHT, TOP, BOTTOM = 104, 26, 24, 44
 EDGE, BAND = 12, 20                # between the axes and the marks; the bands above and below
 HEIGHTS = ((12, 190, 110), (60, 120, 90), (None, 84, 84))  # up to so many panels: high, and low
 FEW = 8                            # marks, up to which a panel is a low one
-CUT, MOST_CUTS = 60, 6             # how wide a silence is that was cut out, and how many there are
-DIGIT, APART = 7, 22               # pixels of a digit, and between the labels of an axis
-LEAST_REACH = 4                    # counters
+CUT, MOST_CUTS = 66, 6             # how wide a silence is that was cut out, and how many there are
+DIGIT, APART, LABEL = 7, 22, 22    # pixels of a digit, between labels in a line, and under another
+LEAST_REACH = 4                    # counters so far out of range that are still drawn to scale
 DENSE = 300                        # marks of a panel from which on those of opened frames are small
 
 # The marks in the order in which they are drawn, the rare ones last: each a path behind its centre.
 SHAPES = {
     "opened": "m-4.2 0a4.2 4.2 0 1 0 8.4 0a4.2 4.2 0 1 0-8.4 0z",
     "nokey": "m-4-4h8v8h-8z",
-    "refused": "m-4.2 0a4.2 4.2 0 1 0 8.4 0a4.2 4.2 0 1 0-8.4 0zm2 0a2.2 2.2 0 1 1 4.4 0"
-               "a2.2 2.2 0 1 1-4.4 0z",
+    "refused": "m-3.8 0a3.8 3.8 0 1 0 7.6 0a3.8 3.8 0 1 0-7.6 0z",
     "genuine": "m0-5.8l6.4 11.6h-12.8z",
     "altered": "m0-7l6 7l-6 7l-6-7z",
     "forged": "m0-2.1l3.5-3.5l2.1 2.1l-3.5 3.5l3.5 3.5l-2.1 2.1l-3.5-3.5l-3.5 3.5l-2.1-2.1l3.5-3.5"
@@ -92,15 +91,16 @@ def multiples(step, low, high):
 
 
 def silences(times):
-    """Where the silences start that are cut out: the longest gaps, each of them longer than half of
-    all time that is left, and than three times the longest gap that is left."""
+    """Where the silences start that are cut out: the longest gaps, as long as those that are much
+    longer than any other left make up more than four fifths of what is left."""
     gaps = sorted(((after - before, before) for before, after in pairwise(times)), reverse=True)
-    left, cut = times[-1] - times[0], 0
+    left, alike, cut = times[-1] - times[0], 0, 0
     for place in range(min(MOST_CUTS, len(gaps) - 1)):
-        gap, shorter = gaps[place][0], gaps[place + 1][0]
-        left -= gap
-        if 2 * gap > left and gap > 3 * shorter:
-            cut = place + 1
+        alike += gaps[place][0]
+        if gaps[place][0] > 3 * gaps[place + 1][0]:
+            if 5 * alike <= 4 * left:
+                break
+            left, alike, cut = left - alike, 0, place + 1
     return {before for _, before in gaps[:cut]}
 
 
@@ -161,7 +161,7 @@ def length(gap):
         return f"{gap / SECOND / 86400:.0f} days"
     if gap >= 100 * SECOND:
         return f"{gap / SECOND:.0f} s"
-    return f"{gap / SECOND:.3g} s"
+    return f"{gap / SECOND:.3g} s" if gap >= SECOND / 10 else f"{gap * 1000 / SECOND:.3g} ms"
 
 
 def span(marks):
@@ -195,7 +195,8 @@ class Panel:
             return self.above - BAND / 2
         if counter < self.low:
             return self.below + BAND / 2
-        return self.below - (counter - self.low) * (self.below - self.above) / (self.high - self.low)
+        part = (counter - self.low) / (self.high - self.low)
+        return self.below - part * (self.below - self.above)
 
     def draw(self):
         """All of it, what is drawn over something else behind it."""
@@ -214,9 +215,9 @@ class Panel:
 
     def counter_axis(self):
         """Lines at round counters, each with its label."""
-        step = max(1, round_step((self.high - self.low) / max(3, self.height // 44)))
+        step = round_step((self.high - self.low) * LABEL / (self.below - self.above))
         yield f'<text class="name" x="{LEFT - 8}" y="14" text-anchor="end">counter</text>'
-        for counter in multiples(step, self.low, self.high):
+        for counter in multiples(step, self.low, self.high) or (self.low, self.high):
             text = f"{counter:,}" if counter >= 10000 else counter
             yield (f'<path class="grid" d="M{LEFT} {self.y(counter):.1f}H{WIDTH - RIGHT}"/>'
                    f'<text x="{LEFT - 8}" y="{self.y(counter) + 4:.1f}" text-anchor="end">{text}'

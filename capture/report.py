@@ -1,7 +1,7 @@
 """The report of a capture: one page with a picture of the counters and the log below it.
 
 The page has no outside parts and no script. A mark of the picture is a link to its frame's line in
-the log, and the line's sign a link back.
+the log, and the line's number a link back.
 """
 
 from html import escape
@@ -15,7 +15,7 @@ from .words import CLASSES, class_of, in_words, inside, seconds
 SIGNS = {"opened": "●", "unsecured": "–", "genuine": "▲", "altered": "◆", "forged": "✕",
          "nokey": "□", "refused": "○", "passed": "·", "spoilt": "~"}
 COLUMNS = ("frame", "time in s", "from → to", "sender", "counter", "verdict", "inside")
-CHUNK, LINE = 100, 27  # lines of the log that are laid out together, and pixels of one
+CHUNK, LINE = 100, 28  # lines of the log that are laid out together, and pixels of one
 
 # The four colours that matter are of Okabe and Ito's palette, and differ in lightness too.
 STYLE = """
@@ -33,10 +33,10 @@ a { color: #00507d }
 code, td, .heard li { font-family: "DejaVu Sans Mono", Consolas, Menlo, monospace }
 code { font-size: .92em }
 .whose { font-weight: 600 }
-.two { display: grid; grid-template-columns: 20rem minmax(0, 1fr); gap: 0 1.5rem }
+.two { display: grid; grid-template-columns: 22.5rem minmax(0, 1fr); gap: 0 1.5rem }
 @media (max-width: 760px) { .two { grid-template-columns: minmax(0, 1fr) } }
 .legend { list-style: none; margin: 0; padding: 0 }
-.legend li { display: grid; grid-template-columns: 2rem 3.6rem 1fr; align-items: center }
+.legend li { display: grid; grid-template-columns: 2rem 3.4rem 1fr; align-items: center }
 .legend li.line { grid-template-columns: 2rem 1fr; margin-top: .25rem }
 .legend svg { width: 1.5rem; height: 1.5rem }
 .legend b { text-align: right; padding-right: .7rem }
@@ -57,29 +57,27 @@ svg .far { text-anchor: end; font-style: italic }
 .band { fill: #ececec }
 .cut { stroke: #444; stroke-dasharray: 4 3 }
 .floor { stroke: #1c1c1c; stroke-width: 1.5; fill: none }
-.under { fill: #f5f1e6 }
+.under { fill: #7a5c00; fill-opacity: .09 }
 svg g path { stroke-linejoin: round }
 svg .opened path { fill: var(--opened) }
 svg .genuine path { fill: var(--genuine); stroke: #1c1c1c }
 svg .altered path { fill: var(--altered); stroke: #1c1c1c }
 svg .forged path { fill: var(--forged); stroke: #fff; stroke-width: .6 }
-svg .nokey path { fill: #fff; stroke: var(--soft); stroke-width: 1.6 }
-svg .refused path { fill: var(--soft); pointer-events: bounding-box }
+svg .nokey path, svg .refused path { fill: #fff; stroke: var(--soft); stroke-width: 1.6 }
 svg a:hover path, svg a:focus path { stroke: #1c1c1c; stroke-width: 3; paint-order: stroke }
 svg a:target path { stroke: #1c1c1c; stroke-width: 7; paint-order: stroke }
 svg a { outline-offset: 3px; scroll-margin: 40vh 0 }
 table, thead, tbody { display: block }
 tbody { content-visibility: auto }
-tr { display: grid; border-bottom: 1px solid #e4e4e4; border-left: 5px solid transparent;
-  scroll-margin: 40vh 0; grid-template-columns: 5rem 6.7rem 8.4rem 8.4rem 5.8rem
-  minmax(0, 4fr) minmax(0, 3fr) }
+tr { display: grid; align-items: baseline; border-bottom: 1px solid #e4e4e4;
+  border-left: 5px solid transparent; scroll-margin: 40vh 0; grid-template-columns:
+  5rem 6.7rem 8.4rem 8.4rem 5.8rem minmax(0, 1fr) minmax(0, 1fr) }
 thead { position: sticky; top: 0; z-index: 1 }
 thead tr { background: #ececec }
 th, td { padding: .22rem .4rem; font-size: .78rem; text-align: left }
 th:nth-child(2), td:nth-child(2), th:nth-child(5), td:nth-child(5) { text-align: right }
 td:nth-child(6) { font-family: inherit; font-size: .87rem }
-td a { text-decoration: none; color: inherit }
-td a:hover { text-decoration: underline }
+td a { color: inherit; text-decoration: underline dotted; text-underline-offset: .2em }
 td b { display: inline-block; width: 1.25em; text-align: center; font-size: 1rem;
   line-height: 1 }
 tr.opened b { color: var(--opened) }
@@ -93,16 +91,16 @@ tr:target { background: #ffe97a; box-shadow: inset 0 0 0 2px #1c1c1c }
 @media (max-width: 760px) { .log { overflow-x: auto } table { min-width: 720px } }
 """
 
-WHAT_IT_SHOWS = """<p>Each secured frame has a counter, and its sender counts on from frame to frame.
-The <b>floor</b> is the least counter of a sender that is still accepted: an opened frame raises it
-to one more than its own. What comes below is stale, whether it was sent again or altered. The
-panels have the same time axis; a dashed line stands for a silence that is cut out. Click a mark to
-see its line in the log, and a line's sign to see its mark.</p>
+WHAT_IT_SHOWS = """<p>Each secured frame has a counter, and its sender counts on from frame to
+frame. The <b>floor</b> is the least counter of a sender that is still accepted: an opened frame
+raises it to one more than its own. What comes below is stale, whether it was sent again or altered.
+The panels have the same time axis; a dashed line stands for a silence that is cut out. Click a mark
+to see its line in the log, and a line's number to see its mark.</p>
 """
-LINES = """<li class="line"><svg viewBox="0 0 24 24"><path class="under" d="M1 11h22v9h-22z"/>
+SIGN = '<svg viewBox="0 0 24 24" aria-hidden="true">'
+LINES = f"""<li class="line">{SIGN}<path class="under" d="M1 11h22v9h-22z"/>
 <path class="floor" d="M1 11h22"/></svg>floor: the least counter still accepted</li>
-<li class="line"><svg viewBox="0 0 24 24"><path class="cut" d="M12 2v20"/></svg>a silence that is
-cut out, and how long it was</li>
+<li class="line">{SIGN}<path class="cut" d="M12 2v20"/></svg>a silence that is cut out</li>
 """
 NO_PICTURE = "<p>There is no picture: no frame of this capture has a sender and a counter.</p>\n"
 NO_LOG = "<p>The capture has no frame.</p>\n"
@@ -159,7 +157,7 @@ def legend(counts):
     yield '<ul class="legend">\n'
     for name, words in CLASSES.items():
         if name in SHAPES:
-            sign = f'<svg viewBox="0 0 24 24"><g class="{name}"><path d="M12 12{SHAPES[name]}"/></g></svg>'
+            sign = f'{SIGN}<g class="{name}"><path d="M12 12{SHAPES[name]}"/></g></svg>'
         elif counts[name]:
             sign = f'<span class="sign">{SIGNS[name]}</span>'
         else:
@@ -177,7 +175,7 @@ def heard_up_to(listener):
 # ---- the log -----------------------------------------------------------------------------------
 
 def line(heard, name, marked):
-    """The line of a frame; its sign is a link where the frame has a mark."""
+    """The line of a frame; its number is a link where the frame has a mark."""
     frame = f"<b>{SIGNS[name]}</b>{heard.number}"
     cells = (f'<a href="#m{heard.number}">{frame}</a>' if marked else frame, seconds(heard.time),
              escape(f"{address(heard.source)} → {address(heard.destination)}"),

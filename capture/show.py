@@ -34,12 +34,12 @@ def packets(capture, code):
                    else "No frame could be read."))
 
 
-def frames(capture):
+def frames(capture, by_chip):
     """Prints the network frames of a capture; the exit code."""
     code = []
     for packet in packets(capture, code):
         try:
-            frame = mac.read(links.frame_of(packet))
+            frame = mac.read(links.frame_of(packet, by_chip))
         except links.Passed:
             continue
         if frame.name is None:
@@ -104,7 +104,8 @@ def show(given, capture, start, labels, whose):
     code = []
     with ExitStack() as stack:
         listener = stack.enter_context(
-            closing(Listener(start, labels, given.network_key, given.link_key)))
+            closing(Listener(start, labels, given.network_key, given.link_key,
+                             given.chip_checksum)))
         shown = Shown(given, capture, whose, stack)
         shown.head()
         for packet in packets(capture, code):

@@ -14,7 +14,7 @@ ANY = 0xFFFF
 
 
 def with_checksum(frame):
-    """A frame and its checksum: the remainder of the ITU-T's polynomial, from 0, least bit first."""
+    """A frame and its checksum: the remainder of the ITU-T's CRC, from 0, least bit first."""
     register = 0
     for octet in frame:
         register ^= octet
@@ -103,7 +103,68 @@ def enhanced(ticks, stored, number=0, order="<", length=None, options=b""):
     return block(order, 6, head + stored + bytes(-len(stored) % 4) + options)
 
 
+def old(ticks, stored, number=0, order="<", length=None, options=b""):
+    """A frame of an interface in the block that was there before the enhanced one."""
+    head = struct.pack(order + "HHIIII", number, 0, ticks >> 32, ticks & 0xFFFFFFFF, len(stored),
+                       len(stored) if length is None else length)
+    return block(order, 2, head + stored + bytes(-len(stored) % 4) + options)
+
+
+def simple(stored, order="<", length=None):
+    """A frame of the first interface, without a time."""
+    head = struct.pack(order + "I", len(stored) if length is None else length)
+    return block(order, 3, head + stored + bytes(-len(stored) % 4))
+
+
 def pcapng(frames, link=195, order="<"):
     """A pcapng file of frames, nanoseconds and octets each, stored in microseconds."""
     return section(order) + interface(link, order) + b"".join(
         enhanced(time // 1000, stored, order=order) for time, stored in frames)
+
+
+# ---- what sniffers put around a frame ----------------------------------------------------------
+
+def tap_field(code, value):
+    """A field of a TAP header."""
+    return struct.pack("<HH", code, len(value)) + value + bytes(-len(value) % 4)
+
+
+def tap(frame, fields=b""):
+    """A frame behind a TAP header."""
+    return struct.pack("<BBH", 0, 0, 4 + len(fields)) + fields + frame
+
+
+def ethernet(kind, inside, tags=()):
+    """An Ethernet frame, with a VLAN tag of each of these EtherTypes."""
+    tagged = b"".join(struct.pack(">HH", tag, 5) for tag in tags)
+    return bytes.fromhex("020000000001020000000002") + tagged + struct.pack(">H", kind) + inside
+
+
+def ipv4(inside, options=b"", protocol=17, part=0):
+    """A packet of IPv4, or a part of one, without a checksum."""
+    size = 20 + len(options)
+    return (struct.pack(">BBHHHBBH", 0x40 | size // 4, 0, size + len(inside), 1, part, 64, protocol,
+                        0) + bytes.fromhex("0a0000010a000002") + options + inside)
+
+
+def ipv6(inside, following=17):
+    """A packet of IPv6."""
+    address = bytes.fromhex("fe80") + bytes(13)
+    return (struct.pack(">IHBB", 6 << 28, len(inside), following, 64) + address + b"\1" + address
+            + b"\2" + inside)
+
+
+def udp(inside, source=17754, destination=17754):
+    """A datagram, without a checksum."""
+    return struct.pack(">HHHH", source, destination, 8 + len(inside), 0) + inside
+
+
+def zep1(frame, mode=1):
+    """ZEP of version 1: in mode 1 a frame with its checksum, in mode 0 with a chip's verdict."""
+    return b"EX" + struct.pack(">BBHBB7xB", 1, 15, 0x1234, mode, 200, len(frame)) + frame
+
+
+def zep2(frame, mode=1, kind=1):
+    """ZEP of version 2, of which kind 1 is data."""
+    return b"EX" + struct.pack(">BBBHBBQI10xB", 2, kind, 15, 0x1234, mode, 200, 0xE8 << 56, 7,
+                               len(frame)) + frame

@@ -155,6 +155,9 @@ def kinds(desk, text):
             "g": air.pcapng(frames)}
     for name, octets in made.items():
         sure(desk.run(desk.file(name, octets), *OF_THE_CAPTURE, "--tsv")[0] == text, name)
+    by_chip = desk.file("w.pcap", air.pcap([(moment, octets + b"\xc4\xeb") for moment, octets in bare]))
+    says(desk.run(by_chip, *OF_THE_CAPTURE)[1], "--chip-checksum")
+    sure(desk.run(by_chip, *OF_THE_CAPTURE, "--tsv", "--chip-checksum")[0] == text, "by chip")
     done("kinds of files")
 
 

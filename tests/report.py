@@ -6,10 +6,11 @@
     python3 tests/report.py --bench 'python3 -m independent bench --answer'
 
 It needs Chromium (Debian: apt-get install -y chromium), and is no part of the gate. The page of the
-shipped capture is written by desk.py, the others from made-up frames. Each is opened in a window of
-1,000 pixels, where a script looks at the laid-out page: where each mark stands and whether it can be
-pointed at, what colour and shape it has, where the floor runs, whether labels overlap, what a click
-on a mark brings into sight, and that nothing comes from outside. A page of 10,000 frames is timed.
+shipped capture is written by desk.py, the others from made-up frames. Each is opened without a
+screen, 1,000 pixels wide, and a script looks at it as it is laid out: where each mark stands and
+whether it can be pointed at, what shape and colour it has, where the floor runs, whether labels
+overlap, what a click on a mark brings into sight, and that nothing comes from outside. It is put
+into a copy, since the page forbids scripts. A page of 10,000 frames is timed.
 
 A line is printed for each page, and at last `all pages as drawn`. The exit code is 0, 1 where
 something differs, 2 where Chromium is missing or fails.
@@ -62,6 +63,7 @@ SIGHTS = {
                    (0.004733, 0.691367, 0.303900)),
 }
 LEAST_DISTANCE, LEAST_LIGHTNESS, LEAST_CONTRAST = 15, 8, 3
+FAR = 20  # pixels between marks that tell the scale of the time axis
 
 # What looks at the page, and sends back what it saw.
 LOOK = r"""
@@ -83,9 +85,10 @@ const look = async () => {
   for (const style of all(document, "style, [style]"))
     if (/url\(|@import/.test(style.textContent + style.getAttribute("style")))
       outside.push("a style");
-  for (const element of all(document, "script:not(#look), link, img, image, iframe, object, embed, base"))
-    outside.push(element.tagName);
-  for (const entry of performance.getEntriesByType("resource")) outside.push(entry.name);
+  const loaded = "script:not(#look), link, img, image, use, iframe, object, embed, base";
+  for (const element of all(document, loaded)) outside.push(element.tagName);
+  for (const {name} of performance.getEntriesByType("resource"))
+    if (!name.endsWith("/favicon.ico")) outside.push(name);  // the browser's own wish
 
   const floorOf = (svg, home) => {
     const drawn = svg.querySelector(".floor");
@@ -150,7 +153,7 @@ const look = async () => {
     const seen = document.elementFromPoint(box.left + 60, box.top + box.height / 2);
     const colour = getComputedStyle(row).backgroundColor;
     const plain = row.parentNode.querySelector("tr.opened:not(:target), tr:not(:target)");
-    row.cells[0].querySelector("a").click();
+    row.cells[0].querySelector("a")?.click();
     await shown();
     const mark = document.querySelector("svg a:target");
     jumps.push({name, href: link.getAttribute("href"), row: row.id, took, inView: inView(box),
@@ -277,9 +280,9 @@ def judge_page(seen, name, whose, frames):
     counts = Counter(map(class_of, frames))
     listed = {name: (int(count), wide) for name, count, wide in seen["counts"]}
     for name in SIGNS:
-        check(listed[name][1] > 5, f"the legend doesn't show the shape of {name}")
+        check(name in listed and listed[name][1] > 5, f"the legend doesn't show {name}'s shape")
     for name, count in counts.items():
-        check(listed[name][0] == count, f"{listed[name][0]} frames {name} and not {count}")
+        check(name in listed and listed[name][0] == count, f"not {count} frames are {name}")
 
 
 def judge_rows(seen, frames):
@@ -303,7 +306,7 @@ def judge_rows(seen, frames):
 
 def judge_marks(seen, frames):
     """The marks: one for each frame with a counter, of its class, that a pointer finds, linked to
-    its line; from left to right in the order of time, in all panels alike."""
+    its line."""
     asked = {heard.number: heard for heard in frames if drawn(heard)}
     marks = [mark for panel in seen["panels"] for mark in panel["marks"]]
     check(sorted(asked) == sorted(mark["number"] for mark in marks),
@@ -321,9 +324,28 @@ def judge_marks(seen, frames):
             over = places.get(int(mark["hit"][1:] or 0), {"x": -99, "y": -99})
             check(near(over["x"], mark["x"], 9) and near(over["y"], mark["y"], 9),
                   f"pointing at the mark of frame {number} finds {mark['hit'] or 'no mark'}")
-    for before, after in pairwise(sorted(marks, key=lambda mark: asked[mark["number"]].time)):
-        check(before["x"] <= after["x"] + 0.2,
-              f"frame {after['number']} is later than {before['number']} and stands left of it")
+
+
+def judge_times(seen, frames):
+    """Later marks stand further right, in all panels alike and as far apart as their times are,
+    but for silences that are cut out: so many are dashed lines in each panel."""
+    times = {heard.number: heard.time for heard in frames}
+    marks = sorted((times[mark["number"]], mark["x"], mark["number"])
+                   for panel in seen["panels"] for mark in panel["marks"])
+    scale, place, cuts = 0, 0, 0
+    for when, x, _ in marks:  # pixels a nanosecond, told by marks that are not too near
+        while place < len(marks) and marks[place][1] <= x + FAR:
+            place += 1
+        if place < len(marks):
+            scale = max(scale, (marks[place][1] - x) / max(1, marks[place][0] - when))
+    for (before, x, _), (after, y, number) in pairwise(marks):
+        check(y >= x - 0.2, f"frame {number} is later than another and stands left of it")
+        due = (after - before) * scale
+        cuts += due - (y - x) > 1 + due / 50
+        check(y - x - due <= 1 + due / 50, f"frame {number} stands too far right")
+    for panel in seen["panels"]:
+        check(len(panel["dashes"]) == cuts and "none" not in panel["dashes"],
+              f"{len(panel['dashes'])} dashed lines for {cuts} silences in {panel['caption']}")
 
 
 def judge_jumps(seen):
@@ -331,7 +353,7 @@ def judge_jumps(seen):
     for jump in seen["jumps"]:
         check(f"#{jump['row']}" == jump["href"] and jump["inView"] and jump["uncovered"],
               f"a click on a mark ({jump['name']}) doesn't show its line: {jump}")
-        check(jump["colour"] != jump["others"], f"the line that was asked for looks as others do")
+        check(jump["colour"] != jump["others"], "the line that was asked for looks as others do")
         check(jump["back"] == f"m{jump['row'][1:]}" and jump["backInView"],
               f"the way back from line {jump['row']} leads to {jump['back']!r}")
 
@@ -513,11 +535,11 @@ def many_frames():
         if step % 4 == 3:
             frames.ack(when)
         elif step % 97 == 50:
-            frames.add(when, counter - 1 - step % 5 % counter, GENUINE, sender)
+            frames.add(when, counter - 1 - step * 37 % counter % 2000, GENUINE, sender)
         elif step % 211 == 100:
-            frames.add(when, counter - 1, ALTERED, sender)
+            frames.add(when, counter - 1 - step % 7 % counter, ALTERED, sender)
         elif step % 307 == 200:
-            frames.add(when, counter + step % 50, FORGED, sender)
+            frames.add(when, counter + step % 900, FORGED, sender)
         elif step % 41 == 8:
             frames.add(when, step, NO_KEY, STRANGER, OTHER_PAN)
         else:
@@ -549,10 +571,9 @@ def unordered_frames():
     """Frames of two files put together, so that times go back; and a sender under two keys."""
     frames = Frames()
     for step in range(12):
-        frames.add(step / 2 - 40 * (step % 3 == 2), 10 + step)
+        frames.add(step / 2 - 400 * (step % 3 == 2), 10 + step)
         frames.add(step / 2, (step % 6) * 3, sender=DISPLAY)
-    frames.add(-100.25, 15, GENUINE)
-    frames[-1].time = frames[-2].time + SECOND
+    frames.add(7, 15, GENUINE)
     return frames
 
 
@@ -587,6 +608,7 @@ def judge(seen, name, whose, frames):
     judge_page(seen, name, whose, frames)
     judge_rows(seen, frames)
     judge_marks(seen, frames)
+    judge_times(seen, frames)
     judge_panels(seen, frames)
     judge_jumps(seen)
 
@@ -618,8 +640,8 @@ def first_capture(chromium, folder, bench):
             heard.repeats = int(again[1]), frames[int(again[1]) - 1].time
     judge(seen, STORED.name, whose, frames)
     for panel in seen["panels"]:
-        check("3600 s" in [text for text, *_ in panel["texts"]] and panel["dashes"]
-              and "none" not in panel["dashes"], f"no cut of an hour in {panel['caption']}")
+        check("3600 s" in [text for text, *_ in panel["texts"]],
+              f"no silence of an hour in {panel['caption']}")
     for sender in {heard.sender for heard in frames if heard.network == "opened"}:
         up_to = max(h.counter for h in frames if h.sender == sender and h.network == "opened")
         check(any(f"{sender} heard up to counter {up_to}" in item for item in seen["heard"]),
