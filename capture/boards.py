@@ -29,12 +29,12 @@ class Board:
         self.bench = start()
         self.bench.ok("lend", OUTPUT, ROWS, ROWS)
         self.bench.ok("board", LISTENER)
-        self.numbers, self.partners = {}, {}  # network keys in the slots' order, link keys
+        self.numbers, self.partners = [], {}  # of the keys in the slots; link keys by partner
 
     def install(self, number, key):
         """Puts a network key into the next slot."""
         self.bench.ok("network", len(self.numbers), number, key)
-        self.numbers[number] = key
+        self.numbers.append(number)
 
     def link(self, partner, key):
         """Adds the link key of a partner."""
@@ -46,17 +46,15 @@ class Board:
         self.bench.ok("unlink", partner)
         del self.partners[partner]
 
-    def forget(self, number, sender):
-        """Forgets a sender under the network key of that number."""
-        self.bench.ok("forget", list(self.numbers).index(number), sender)
-
 
 class Boards:
     """The boards that listen to one PAN, started as they are needed."""
 
-    def __init__(self, start, link_keys=()):
+    def __init__(self, start, network_keys=(), link_keys=()):
         self.start, self.boards = start, []
         self.network_keys, self.partners = [], {}  # the partners' boards, the newest first
+        for number, key in network_keys:
+            self.install(number, key)
         for partner, key in link_keys:
             self.link(partner, key)
 
@@ -92,9 +90,9 @@ class Boards:
         return any(board.partners[partner] == key for board in self.partners.get(partner, ()))
 
     def open(self, frame):
-        """What the boards say of a network frame, and the board that this goes by."""
+        """What the boards say of a network frame."""
         with_keys = [board for board in reversed(self.boards) if board.numbers]
-        return self.ask(with_keys, "open", frame)
+        return self.ask(with_keys, "open", frame)[0]
 
     def open_aps(self, sender, frame):
         """What the boards say of an APS frame from a sender, and the key that this goes by. A sender
@@ -135,34 +133,26 @@ class Boards:
 
 
 class Trial:
-    """Boards on which it is tried whether a key that was given opens a frame, before it is taken to
-    be the sender's, or the PAN's. What opens there leaves no floor."""
+    """A board on which it is tried whether a label's key opens a frame, before it is taken to be
+    the sender's. What opens there leaves no floor."""
 
-    def __init__(self, start, network_keys):
-        self.boards, self.network_keys = Boards(start), network_keys
+    def __init__(self, start):
+        self.start, self.board = start, None
 
-    def network_key(self, frame, number):
-        """The given network key of this number that opens the frame: number and key, or None."""
-        for known in self.network_keys:
-            self.boards.install(*known)
-        answer, board = self.boards.open(frame)
-        if not opened(answer):
-            return None
-        board.forget(number, answer[1])
-        return number, board.numbers[number]
-
-    def link_key_fits(self, sender, key, frame):
-        """Whether a link key opens the APS frame of the sender."""
-        board = self.boards.first()
-        if sender not in board.partners and len(board.partners) == ENTRIES:
-            board.unlink(next(iter(board.partners)))
-        if board.partners.get(sender) != key:
-            board.link(sender, key)
-        if not opened(board.bench.ask("openaps", sender, frame)):
+    def fits(self, sender, key, frame):
+        """Whether the key opens the APS frame of the sender."""
+        self.board = self.board or Board(self.start)
+        partners = self.board.partners
+        if sender not in partners and len(partners) == ENTRIES:
+            self.board.unlink(next(iter(partners)))
+        if partners.get(sender) != key:
+            self.board.link(sender, key)
+        if not opened(self.board.bench.ask("openaps", sender, frame)):
             return False
-        board.unlink(sender)
+        self.board.unlink(sender)
         return True
 
     def close(self):
-        """Ends the benches."""
-        self.boards.close()
+        """Ends the bench."""
+        if self.board is not None:
+            self.board.bench.close()

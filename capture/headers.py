@@ -78,8 +78,3 @@ def counter_and_sender(octets, start):
     if len(octets) < start + 13:
         return None, None
     return counter, digits(octets[start + 5:start + 13])
-
-
-def key_number(octets, start):
-    """The key's sequence number in the auxiliary header of a network frame that has all of it."""
-    return octets[start + 13]

@@ -29,6 +29,7 @@ class Heard:
     sender: str = "-"         # of the network layer, as are counter and the first verdict
     counter: int = None
     network: str = "-"
+    foreign: bool = False     # no network key is known to be this PAN's
     aps: str = "-"
     inside: str = "-"
     command: tuple = ()       # what the reader told of a command, in its fields
@@ -37,11 +38,11 @@ class Heard:
 
 
 class Pan:
-    """What is known of a PAN: its boards, once a key fitted there, and the long addresses behind
-    short ones."""
+    """What is known of a PAN: its boards, once a key fitted there; whether a network key was found
+    to be its own, and not only given; the long addresses behind short ones."""
 
     def __init__(self):
-        self.boards, self.longs = None, {}
+        self.boards, self.has_key, self.longs = None, False, {}
 
     def learn(self, short, long):
         """Remembers the long address behind a short one."""
@@ -71,19 +72,20 @@ class Listener:
     `by_chip` says that a chip's verdict stands in the checksum's place."""
 
     def __init__(self, start, labels=(), network_keys=(), link_keys=(), by_chip=False):
-        self.start, self.labels, self.link_keys, self.by_chip = start, labels, link_keys, by_chip
-        self.trial, self.common, self.pans = Trial(start, network_keys), None, {}
+        self.start, self.labels, self.by_chip = start, labels, by_chip
+        self.known, self.trial = (network_keys, link_keys), Trial(start)
+        self.common, self.pans = None, {}
         self.first_time = None
         self.networks, self.links = Remembered(), Remembered()
 
     # ---- boards ----
 
     def boards(self, pan):
-        """The boards to ask: the PAN's own, else those that have only the link keys given."""
+        """The boards to ask: the PAN's own, else those that have only the keys that were given."""
         if pan.boards is not None:
             return pan.boards
         if self.common is None:
-            self.common = Boards(self.start, self.link_keys)
+            self.common = Boards(self.start, *self.known)
         return self.common
 
     def own(self, pan):
@@ -101,9 +103,8 @@ class Listener:
                 boards.close()
 
     def has_network_key(self):
-        """Whether a network key of any PAN was found."""
-        return any(pan.boards is not None and pan.boards.network_keys
-                   for pan in self.pans.values())
+        """Whether the network key of any PAN is known, and not only given."""
+        return any(pan.has_key for pan in self.pans.values())
 
     # ---- a frame ----
 
@@ -128,10 +129,8 @@ class Listener:
         """Asks about a network frame."""
         octets, header = frame.payload, headers.network(frame.payload)
         pan = self.pans.setdefault(frame.pan, Pan())
-        answer, _ = self.boards(pan).open(octets[:MOST_FIELD])
-        if answer[0] != "ok" and not fits(answer) and answer[1] not in ALIKE:
-            answer = self.try_network_keys(heard, pan, octets, header) or answer
-        heard.network = verdict(answer)
+        answer = self.boards(pan).open(octets[:MOST_FIELD])
+        heard.network, heard.foreign = verdict(answer), not pan.has_key
         if header is not None:
             heard.source, heard.destination = header.source, header.destination
             if header.secured and answer[1] not in ALIKE:
@@ -141,6 +140,7 @@ class Listener:
             return
         if opened(answer):
             self.own(pan)
+            pan.has_key = True
             self.networks.keep(heard, octets)
             pan.learn(frame.source, answer[1])
             pan.learn(header.source, header.long_source or NOBODY[0])
@@ -148,18 +148,6 @@ class Listener:
         heard.inside = payload.hex()
         if header.kind == headers.DATA:
             self.hear_aps(heard, pan, header, payload)
-
-    def try_network_keys(self, heard, pan, octets, header):
-        """What the boards say once a network key that was given was found to fit in this PAN, or
-        None where none does."""
-        if not self.trial.network_keys:
-            return None
-        number = headers.key_number(octets, header.size)
-        found = self.trial.network_key(octets, number)
-        if found is None or not self.own(pan).install(*found):
-            return None
-        heard.notes.append(f"network key {number}, as given, fits from here on")
-        return self.boards(pan).open(octets)[0]
 
     # ---- the APS layer ----
 
@@ -173,7 +161,7 @@ class Listener:
         if answer[0] != "ok":
             heard.repeats = self.links.find(heard, octets) if fits(answer) else None
             if answer[1] == "6":
-                heard.notes.append(f"of {sender or 'a sender that is not known'}")
+                heard.notes.append(f"its sender is {sender or 'not known'}")
             return
         if opened(answer):
             self.own(pan)
@@ -190,7 +178,7 @@ class Listener:
         """What the boards say once a label's key was found to fit, or None where none does."""
         for place, key in enumerate(self.labels, 1):
             if (sender not in NOBODY and not self.boards(pan).has_link(sender, key)
-                    and self.trial.link_key_fits(sender, key, octets)):
+                    and self.trial.fits(sender, key, octets)):
                 self.own(pan).link(sender, key)
                 heard.notes.append("opened with the label's key" if len(self.labels) == 1
                                    else f"opened with the key of label {place}")
@@ -213,6 +201,7 @@ class Listener:
         match fields:
             case ["transport1", new, number, destination, source]:
                 self.share(pan, key, destination, source)
+                pan.has_key = True
                 if self.own(pan).install(int(number), new):
                     heard.notes.append(f"network key {number} is known from here on")
             case ["transport4", new, destination, source, _]:

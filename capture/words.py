@@ -67,6 +67,8 @@ def class_of(heard):
     verdict = decisive(heard)
     if verdict in ("opened", "unsecured"):
         return verdict
+    if heard.foreign and heard.network == "9 forged":
+        return "nokey"
     number, *_, last = verdict.split(" ")
     return last if number == "8" else BY_NUMBER.get(number, "refused")
 
@@ -87,6 +89,8 @@ def in_words(heard):
     """The verdict of a frame in words, with 01's number."""
     if heard.network == "-":
         return "not asked about" if class_of(heard) == "spoilt" else "passed over"
+    if heard.foreign and heard.network == "9 forged":
+        return "9 forged, or another network's: no key has opened a frame of this PAN yet"
     if heard.network not in ("opened", "unsecured"):
         return refusal(heard.network, heard.repeats, heard.time)
     if heard.aps in ("-", "unsecured") or heard.network == heard.aps:
@@ -122,7 +126,7 @@ def advice(counts, listener):
                "have written signal strength in their place: try --chip-checksum.")
     elif not asked or asked == counts["refused"]:
         yield "No Zigbee network frame is in this capture."
-    elif counts["nokey"] and listener.trial.network_keys and not listener.has_network_key():
+    elif counts["nokey"] and listener.known[0] and not listener.has_network_key():
         yield "No network key that was given fits a frame of this capture."
     elif counts["nokey"] and not listener.has_network_key():
         yield ("No network key is known. A Transport-Key that a label opens brings it: start the "

@@ -66,13 +66,13 @@ def pcap(frames, link=195, order="<", nanoseconds=False):
     """A pcap file of frames: nanoseconds and octets each, and the octets in the air where some were
     cut."""
     unit = 1 if nanoseconds else 1000
-    octets = struct.pack(order + "IHHiIII", 0xA1B23C4D if nanoseconds else 0xA1B2C3D4, 2, 4, 0, 0,
-                         65535, link)
+    octets = [struct.pack(order + "IHHiIII", 0xA1B23C4D if nanoseconds else 0xA1B2C3D4, 2, 4, 0, 0,
+                          65535, link)]
     for time, stored, *length in frames:
         seconds, parts = divmod(time, 10**9)
-        octets += struct.pack(order + "IIII", seconds, parts // unit, len(stored),
-                              *length or [len(stored)]) + stored
-    return octets
+        octets.append(struct.pack(order + "IIII", seconds, parts // unit, len(stored),
+                                  *length or [len(stored)]) + stored)
+    return b"".join(octets)
 
 
 def option(order, code, value):

@@ -65,7 +65,7 @@ class Desk:
 def sure(holds, what, *found):
     """Stops where something that must hold doesn't."""
     if not holds:
-        raise Differs(f"{what}: {' '.join(map(str, found))}")
+        raise Differs(f"{what}: {' '.join(map(str, found))[:2000]}")
 
 
 def says(text, *parts):
@@ -137,10 +137,14 @@ def other_keys(desk, text):
     keys = ("--network-key", f"0:{NETWORK_KEY}")
     found = rows(desk.run(STORED, "--tsv", *keys)[0])
     for row, asked in zip(found, rows(text)):
-        sure(row[:5] == asked[:5], "with the network key", row, asked)
+        sure(row[:5] == asked[:5] or row[2] == "9 forged", "with the network key", row, asked)
+    sure([row[2] for row in found].count("9 forged") == 6, "frames that the key doesn't fit")
+    says(desk.run(STORED, *keys)[0], "1 forged", "16 no key yet", "or another network's")
     links = [word for owner in ("aaaaaaaaaaaaaaaa", "00:00:00:00:00:00:00:01")
              for word in ("--link-key", f"{owner}:{LABEL_KEY}")]
-    sure(desk.run(STORED, "--tsv", *keys, *links)[0] == text, "with all keys given")
+    found = desk.run(STORED, "--tsv", *keys, *links)[0]
+    sure([row[5:] for row in rows(found)] == [row[5:] for row in rows(text)], "with all keys given")
+    says(desk.run(STORED, "--network-key", "0:" + "11" * 16)[1], "No network key that was given fits")
     done("known keys")
 
 

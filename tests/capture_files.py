@@ -20,6 +20,7 @@ import threading
 import tracemalloc
 import zlib
 from contextlib import closing
+from functools import partial
 from itertools import accumulate
 from pathlib import Path
 
@@ -70,6 +71,8 @@ class Reader:
         self.write(octets)
         try:
             return self.read_from(self.path)
+        except (Differs, OSError):
+            raise
         except Exception as fault:
             raise Differs(f"{fault!r} leaves the reader at {octets.hex()}") from fault
 
@@ -91,13 +94,7 @@ class Reader:
         same(what, self.read(octets), (asked, words))
 
 
-def said(link, octets, length=None):
-    """The frame in a stored one, or the words that it is passed over with."""
-    packet = files.Packet(1, 0, link, octets, len(octets) if length is None else length)
-    return in_or_passed(links.frame_of, packet, octets)
-
-
-def in_or_passed(function, given, octets):
+def told(function, given, octets):
     """What a function gives, or the words that it passes a frame over with."""
     try:
         return function(given)
@@ -105,6 +102,12 @@ def in_or_passed(function, given, octets):
         return str(passed)
     except Exception as fault:
         raise Differs(f"{fault!r} leaves the reader at {octets.hex()}") from fault
+
+
+def inside(link, octets, length=None, spoilt=False):
+    """The frame in a stored one, or the words that it is passed over with."""
+    packet = files.Packet(1, 0, link, octets, len(octets) if length is None else length, spoilt)
+    return told(links.frame_of, packet, octets)
 
 
 # ---- pcap --------------------------------------------------------------------------------------
@@ -115,11 +118,11 @@ def pcap(reader):
               (0, CHECKED, 3)]
     times = {False: (1_763_280_000_123_456_000, 1_763_280_001_123_456_000, 5 * 10**9, 0),
              True: (1_763_280_000_123_456_789, 1_763_280_001_123_456_790, 5 * 10**9, 0)}
-    links_ = {1: 1, 195: 195, 230: 230, 283: 283, 0x2400_00C3: 195, 0xFFFF_00E6: 230}
+    link_types_read = {1: 1, 195: 195, 230: 230, 283: 283, 0x2400_00C3: 195, 0xFFFF_00E6: 230}
     for order in ORDERS:
         for nanoseconds in (False, True):
-            for link, read in links_.items():
-                asked = [stored(time, octets, read, 21 if octets else 0)
+            for link, known in link_types_read.items():
+                asked = [stored(time, octets, known, 21 if octets else 0)
                          for time, (_, octets, *_) in zip(times[nanoseconds], frames)]
                 reader.compare(f"pcap {order} {nanoseconds} {link}",
                                air.pcap(frames, link, order, nanoseconds), asked)
@@ -144,10 +147,10 @@ def pcap_broken_off(reader):
             reader.compare(f"pcap of {size} octets", octets[:size], asked[:max(there - 1, 0)],
                            None if size in ends else words)
             count += 1
-        for stored_, words in ((262145, "is damaged: frame 4 would have 262145 octets"),
-                               (0xFFFFFFFF, "is damaged: frame 4 would have 4294967295 octets"),
-                               (262144, "ends in the middle of frame 4")):
-            head = struct.pack(order + "IIII", 1, 1, stored_, stored_)
+        for length, words in ((262145, "is damaged: frame 4 would have 262145 octets"),
+                              (0xFFFFFFFF, "is damaged: frame 4 would have 4294967295 octets"),
+                              (262144, "ends in the middle of frame 4")):
+            head = struct.pack(order + "IIII", 1, 1, length, length)
             reader.compare("an absurd length", octets + head + bytes(1000), asked,
                            f"the file {words}")
     return f"{count} that end early, at each octet, and 6 with absurd lengths"
@@ -155,8 +158,8 @@ def pcap_broken_off(reader):
 
 # ---- pcapng ------------------------------------------------------------------------------------
 
-# Resolution and offset of an interface, a time stamp, and the nanoseconds that it means. Wireshark
-# leaves 64 bits where a tick is shorter than a tenth of a nanosecond.
+# Resolution and offset of an interface, a time stamp, and its nanoseconds. The sum that Wireshark
+# makes overflows where a second has more than some 2 to the power of 34 ticks.
 TIMES = (
     (None, None, MICROSECONDS, 1_763_280_000_123_456_000),
     (6, None, MICROSECONDS, 1_763_280_000_123_456_000),
@@ -187,8 +190,8 @@ def pcapng_times(reader):
             options = b"" if resolution is None else air.option(order, 9, bytes([resolution]))
             if offset is not None:
                 options += air.option(order, 14, struct.pack(order + "q", offset))
-            for options_ in (options, options + end):
-                octets = (air.section(order) + air.interface(195, order, options_)
+            for closed in (options, options + end):
+                octets = (air.section(order) + air.interface(195, order, closed)
                           + air.enhanced(ticks, CHECKED, order=order))
                 reader.compare(f"resolution {resolution}, offset {offset}", octets,
                                [stored(asked, CHECKED)])
@@ -244,10 +247,11 @@ def parts(order, other):
 def pcapng(reader):
     """Whole files, and files that end at each of their octets."""
     count = 0
-    for order, other in (ORDERS, ORDERS[::-1], ("<", "<"), (">", ">")):
+    for order, other in (ORDERS, ORDERS[::-1]):
         octets, frames = zip(*parts(order, other))
         whole, ends = b"".join(octets), list(accumulate(map(len, octets)))
-        reader.compare("pcapng", whole, [frame for frame in frames if frame])
+        asked = [frame for frame in frames if frame]
+        reader.compare("pcapng", whole, asked)
         for size in range(len(whole)):
             there = [frame for end, frame in zip(ends, frames) if end <= size and frame]
             words = (f"the file ends in the middle of the block behind frame {len(there)}" if there
@@ -257,7 +261,7 @@ def pcapng(reader):
             reader.compare(f"pcapng of {size} octets", whole[:size], there,
                            None if size in ends else words)
             count += 1
-    return f"4 files of 15 frames as written, and {count} that end early, at each octet"
+    return f"2 files of {len(asked)} frames as written, and {count} that end early, at each octet"
 
 
 def damaged(order):
@@ -294,8 +298,7 @@ def pcapng_damaged(reader):
         reader.compare("a length beyond the block", start + lying + packet,
                        [stored(1000, CHECKED + bytes(3), length=4000), stored(1000, CHECKED)])
     many = air.section() + air.interface() * 65536 + air.enhanced(1, CHECKED, 65535)
-    reader.compare("65536 interfaces", many, [stored(1000, CHECKED)])
-    reader.compare("65537 interfaces", many + air.interface(), [stored(1000, CHECKED)],
+    reader.compare("interfaces", many + air.interface(), [stored(1000, CHECKED)],
                    "the file is damaged: the block behind frame 1 is one interface too many")
     return f"{count} damaged, the frames before the damage read; 65536 interfaces and no more"
 
@@ -339,7 +342,7 @@ def gzip_whole(reader):
 def gzip_broken_off(reader):
     """A packed file that ends at each octet, or is damaged in one bit of each: all frames that can
     be unpacked come first."""
-    frames, count = [(TIME + turn, CHECKED[turn:]) for turn in range(9)], 0
+    frames, count = [(TIME + turn, CHECKED[turn:]) for turn in range(4)], 0
     for plain in (air.pcap(frames, 195, ">", True), air.pcapng(frames)):
         for level in (0, 9):
             whole = packed(plain, level)
@@ -347,13 +350,11 @@ def gzip_broken_off(reader):
                            + [flipped(whole, place) for place in range(2, len(whole))]):
                 there, words = unpacked(octets)
                 asked, at_end = reader.read(there)
-                found, said_ = reader.read(octets)
-                same("frames before a gzip file breaks off", found, asked)
                 if len(there) < 4:
                     words = f"FILE: {words}"
-                elif at_end and "damaged" in at_end or at_end == NO_CAPTURE:
+                elif at_end == NO_CAPTURE or at_end and "damaged" in at_end:
                     words = at_end
-                same("words on a gzip file", said_, words)
+                reader.compare("a gzip file", octets, asked, words)
                 count += 1
     return f"{count} that end early or are altered, at each octet"
 
@@ -414,7 +415,7 @@ def memory(reader):
     """The memory that reading takes, which must not grow with the file."""
     for write in (air.pcap, air.pcapng, lambda frames: packed(air.pcap(frames))):
         peaks = []
-        for count in (1000, 4000):
+        for count in (500, 2000):
             reader.write(write([(turn, bytes(range(256))) for turn in range(count)]))
             tracemalloc.start()
             with closing(files.Capture(reader.path)) as capture:
@@ -488,7 +489,7 @@ ETHERNET = (
     ("IPv6, cut", air.ethernet(0x86DD, air.ipv6(b"")[:39]), OTHER),
     ("IPv6, other headers", air.ethernet(0x86DD, air.ipv6(bytes(8), 0)), OTHER),
 )
-ZEP = (
+ZEP = tuple((what, in_ipv4(octets), asked) for what, octets, asked in (
     ("version 1, mode 1", air.zep1(CHECKED), FRAME),
     ("version 1, mode 1, a wrong checksum", air.zep1(SPOILT), WRONG),
     ("version 1, mode 1, a chip's verdict", air.zep1(CHIP), WRONG),
@@ -516,11 +517,11 @@ ZEP = (
     ("no version", b"EX", UNKNOWN_ZEP),
     ("another start", b"XE" + air.zep2(CHECKED)[2:], NO_ZEP),
     ("nothing", b"", NO_ZEP),
-)
+))
 
 # TAP: a field says which checksum the frame has. The last checksums are the standard's examples:
 # the one of 32 bits fills a frame of less than 4 octets up with zeros, which Wireshark doesn't.
-LONG_CHECKSUM = FRAME + least(zlib.crc32(FRAME), 4)
+LONG_CHECKSUM = FRAME + bytes.fromhex("711a939f")
 NO_TAP = "no TAP header that is known"
 TYPES = [air.tap_field(0, bytes([kind])) for kind in range(4)]
 CHANNEL = air.tap_field(3, b"\x0f\0\0")
@@ -563,11 +564,11 @@ def link_types(_reader):
             (230, FRAME, FRAME), (230, CHECKED, CHECKED), (230, b"", b""),
             (147, FRAME, "link type 147"), (0, b"", "link type 0"),
             (None, FRAME, "an interface that the file doesn't describe")):
-        same(f"link type {link}", said(link, octets), asked)
-        same(f"link type {link}, cut", said(link, octets, 200), f"cut: {len(octets)} of 200 octets")
-    spoilt = files.Packet(1, 0, 230, FRAME, len(FRAME), True)
-    same("found wrong", in_or_passed(links.frame_of, spoilt, FRAME), WRONG)
-    return "11 frames, and the same cut"
+        same(f"link type {link}", inside(link, octets), asked)
+        same(f"link type {link}, cut", inside(link, octets, 200),
+             f"cut: {len(octets)} of 200 octets")
+        same(f"link type {link}, found wrong", inside(link, octets, None, True), WRONG)
+    return "11 frames, and the same cut or found wrong by the sniffer"
 
 
 def checksums(_reader):
@@ -575,24 +576,23 @@ def checksums(_reader):
     count = 0
     for link, head, octets in ((195, b"", CHECKED), (283, air.tap(b"", TYPES[1]), CHECKED),
                                (283, air.tap(b"", TYPES[2]), LONG_CHECKSUM)):
-        same("a right checksum", said(link, head + octets), FRAME)
+        same("a right checksum", inside(link, head + octets), FRAME)
         for bit in range(8 * len(octets)):
-            same("a wrong bit", said(link, head + flipped(octets, bit // 8, 1 << bit % 8)), WRONG)
+            same("a wrong bit", inside(link, head + flipped(octets, bit // 8, 1 << bit % 8)), WRONG)
             count += 1
     return f"3 right, {count} with one bit wrong"
 
 
-def around(name, link, cases):
-    """A group of frames in what sniffers put around them: whole, and cut at each octet."""
-    def group(_reader):
-        count = 0
-        for what, octets, asked in cases:
-            same(f"{name}: {what}", said(link, octets), asked)
-            for size in range(len(octets)):
-                said(link, octets[:size])
-                count += 1
-        return f"{len(cases)} frames as told, and {count} that end early in some words"
-    return group
+def around(name, link, cases, _reader):
+    """Frames in what sniffers put around them: whole, and cut at each octet."""
+    count = 0
+    for what, octets, asked in cases:
+        same(f"{name}: {what}", inside(link, octets), asked)
+        for size in range(len(octets)):
+            if inside(link, octets[:size]) == FRAME and octets[size:].strip(b"\0more"):
+                raise Differs(f"{name}: {what}, cut to {size} octets, is read as if it were whole")
+            count += 1
+    return f"{len(cases)} frames as told, and {count} that end early"
 
 
 # ---- the MAC layer -----------------------------------------------------------------------------
@@ -653,8 +653,8 @@ WITHOUT_PAYLOAD = (
     (f"00 3f {HEADER} 00 f8", OUT_OF_PLACE), ("00 3f 80 3f f0 0d", OUT_OF_PLACE),
 )
 
-# Frames that are no data, by their names. The seventh to the last of the commands have their
-# identifier behind information elements.
+# Frames that are no data, by their names, and such as are none. In the newest version a command's
+# identifier stands behind the information elements.
 NAMES = (
     ("0080 77 d1d0 4d3c ffcf0000", "beacon"),
     ("00a2 77 d1d0 4d3c 0018", "beacon"),
@@ -706,7 +706,7 @@ def header(version, modes, pans, compressed, bits=0, kind=1):
 
 def read(octets):
     """PAN, source, destination and payload of a data frame, or words: a name, or why it is none."""
-    frame = in_or_passed(mac.read, octets, octets)
+    frame = told(mac.read, octets, octets)
     if isinstance(frame, str) or frame.name is not None:
         return frame if isinstance(frame, str) else frame.name
     return frame.pan, frame.source, frame.destination, frame.payload
@@ -755,13 +755,13 @@ def elements(_reader):
         for compressed, pans in enumerate(row):
             for bits in (0x200, 0x300):
                 start = header(2, modes, pans, compressed, bits)
-                told = PANS[pans], BY[modes[1]], TO[modes[0]]
+                ends = PANS[pans], BY[modes[1]], TO[modes[0]]
                 for digits, behind in (*ELEMENTS, *WITHOUT_PAYLOAD):
                     octets = start + bytes.fromhex(digits)
                     if (digits, behind) in ELEMENTS:
                         octets += behind
                     same(f"elements {octets.hex()}", read(octets),
-                         behind if isinstance(behind, str) else (*told, behind))
+                         behind if isinstance(behind, str) else (*ends, behind))
                     count += 1
     return f"{count} frames as told"
 
@@ -801,24 +801,24 @@ def random_octets(reader):
     """Random and altered files and frames, which must all end in words or a frame."""
     dice = random.Random(7)
     frames = [(195, CHECKED), (230, FRAME), *((1, octets) for _, octets, _ in ETHERNET),
-              *((1, in_ipv4(octets)) for _, octets, _ in ZEP),
+              *((1, octets) for _, octets, _ in ZEP),
               *((283, octets) for _, octets, _ in TAP)]
     whole = [b"".join(octets for octets, _ in parts(*orders)) for orders in (ORDERS, ORDERS[::-1])]
     whole += [air.pcap([(TIME, octets)] * 3, 195, order) for _, octets in frames[:4]
               for order in ORDERS]
     whole += [packed(octets) for octets in whole]
-    for _ in range(4000):
+    for _ in range(2000):
         reader.read(shaken(dice, dice.choice(whole)))
-    for _ in range(1000):
+    for _ in range(500):
         reader.read(dice.choice(whole)[:dice.choice((2, 4, 12, 24, 60))] + dice.randbytes(60))
-    for _ in range(20000):
+    for _ in range(10000):
         link, octets = dice.choice(frames)
         octets = shaken(dice, octets)
         read(octets)
-        inside = said(link, octets)
-        if isinstance(inside, bytes):
-            read(inside)
-    return "5000 files and 20000 frames, none of which makes the reader fall"
+        frame = inside(link, octets)
+        if isinstance(frame, bytes):
+            read(frame)
+    return "2500 files and 10000 frames, none of which makes the reader fall"
 
 
 # ---- the whole ---------------------------------------------------------------------------------
@@ -829,9 +829,9 @@ GROUPS = {
     "gzip": gzip_whole, "gzip, broken off": gzip_broken_off, "gzip, damaged": gzip_damaged,
     "other files": other_files, "memory": memory,
     "link types": link_types, "checksums": checksums,
-    "Ethernet": around("Ethernet", 1, ETHERNET),
-    "ZEP": around("ZEP", 1, [(what, in_ipv4(octets), asked) for what, octets, asked in ZEP]),
-    "TAP": around("TAP", 283, TAP),
+    "Ethernet": partial(around, "Ethernet", 1, ETHERNET),
+    "ZEP": partial(around, "ZEP", 1, ZEP),
+    "TAP": partial(around, "TAP", 283, TAP),
     "addressing": addressing, "information elements": elements, "passed over": names,
     "random octets": random_octets,
 }

@@ -290,7 +290,7 @@ def many_partners(words):
 
 def two_pans(words):
     """Each PAN has keys and floors of its own, also where the key is one."""
-    scene = Scene("three PANs", labels=[LABEL_KEYS[0].hex()], network_keys=[(9, KEYS[9].hex())])
+    scene = Scene("four PANs", labels=[LABEL_KEYS[0].hex()], network_keys=[(9, KEYS[9].hex())])
     bring(scene, LABEL_KEYS[0], KEYS[0], 0)
     frame = sealing.network(KEYS[0], 0, SECOND, 5, plain(SECOND, CENTRE, DATA))
     for _ in range(2):
@@ -300,7 +300,12 @@ def two_pans(words):
     for pan in (PAN, OTHER_PAN, 0x0003):
         scene.network(known, "opened", SECOND, "5", "unsecured", "", pan=pan)
         scene.network(known, GENUINE, SECOND, "5", "-", "-", pan=pan)
-    scene.play(words)
+    other = sealing.network(KEYS[8], 9, SECOND, 6, plain(SECOND, CENTRE, DATA))
+    for pan in (0x0003, 0x0004):
+        scene.network(other, FORGED, SECOND, "6", "-", "-", pan=pan)
+    heard = scene.play(words)
+    if [class_of(one) for one in heard[-2:]] != ["forged", "nokey"]:
+        raise Differs(f"{said_of(heard[-2])}; {said_of(heard[-1])}")
     if set(scene.ends) != {PAN, OTHER_PAN, 0x0003}:
         raise Differs(f"boards are kept for {set(scene.ends)}")
 

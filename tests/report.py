@@ -127,7 +127,8 @@ const look = async () => {
       label: svg.getAttribute("aria-label"), wide: home.width, high: home.height,
       texts: all(svg, "text").map(one => {
         const box = one.getBoundingClientRect();
-        return [one.textContent, box.left - home.left, box.top - home.top, box.width, box.height];
+        return [one.textContent, box.left - home.left, box.top - home.top, box.width, box.height,
+                one.getAttribute("text-anchor")];
       }),
       dashes: all(svg, ".cut").map(one => getComputedStyle(one).strokeDasharray),
       floor: floorOf(svg, home),
@@ -135,8 +136,9 @@ const look = async () => {
     });
   }
 
-  const rows = all(document, "tbody tr").map(row => ({
+  const rows = all(document, "tbody tr").map((row, place) => ({
     id: row.id, name: row.className, cells: [...row.cells].map(cell => cell.textContent),
+    full: place >= 300 || [...row.cells].every(cell => cell.scrollWidth <= cell.clientWidth + 1),
     back: row.cells[0].querySelector("a")?.getAttribute("href") ?? null}));
 
   const jumps = [], classes = new Set();
@@ -175,8 +177,9 @@ const look = async () => {
     wide: page.scrollWidth, room: page.clientWidth, height, outside, panels, rows, jumps,
     loading};
 };
-look().catch(fault => ({fault: fault.stack})).then(
-  seen => fetch("/seen", {method: "POST", body: JSON.stringify(seen)}));
+document.addEventListener("DOMContentLoaded", () =>
+  look().catch(fault => ({fault: fault.stack})).then(
+    seen => fetch("/seen", {method: "POST", body: JSON.stringify(seen)})));
 """
 
 
@@ -250,14 +253,12 @@ def watched(chromium, page):
 
 
 def looked_at(chromium, path):
-    """What a script sees of a page. It is put into a copy, which allows scripts; the page has
-    none."""
+    """What a script sees of a page. It takes the place of the policy, which forbids scripts."""
     page = path.read_text("utf-8")
     check(len(POLICY.findall(page)) == 1, f"{path.name} doesn't forbid outside parts and scripts")
     check("<script" not in page and not re.search(r"https?:", page),
           f"{path.name} has a script or a part from outside")
-    seen = watched(chromium, POLICY.sub("", page).replace(
-        "</body>", f'<script id="look">{LOOK}</script></body>'))
+    seen = watched(chromium, POLICY.sub(lambda _: f'<script id="look">{LOOK}</script>', page))
     check("fault" not in seen, f"{path.name} can't be looked at: {seen.get('fault')}")
     return seen
 
@@ -298,6 +299,7 @@ def judge_rows(seen, frames):
         found = [number, row["cells"][1], row["cells"][3], row["cells"][4], row["name"], row["id"],
                  row["back"]]
         check(found == asked, f"the line of frame {heard.number}: {found} and not {asked}")
+        check(row["full"], f"the line of frame {heard.number} is cut off")
         check(sign == SIGNS.get(row["name"], sign), f"frame {heard.number} has the sign {sign}")
         check(verdict_of(heard) in row["cells"][5], f"frame {heard.number}: {row['cells'][5]!r}")
         if not heard.command:
@@ -365,7 +367,7 @@ def judge_texts(panel):
     check(panel["role"] == "img" and panel["label"], f"{panel['caption']} has no name")
     words = [text for text, *_ in panel["texts"]]
     check("counter" in words and "time in seconds" in words, f"the axes' names: {words}")
-    for text, left, top, wide, high in panel["texts"]:
+    for text, left, top, wide, high, _ in panel["texts"]:
         check(left >= -0.5 and top >= -0.5 and left + wide <= panel["wide"] + 0.5
               and top + high <= panel["high"] + 0.5, f"{text!r} is cut off in {panel['caption']}")
     for one, other in combinations(panel["texts"], 2):
@@ -404,6 +406,25 @@ def judge_counters(panel, by_number):
                   f"frame {mark['number']} does not stand at its counter")
 
 
+def judge_ticks(panel, by_number, marks):
+    """The labels of the axes stand where marks of such counters and times do."""
+    scale = rise(panel, by_number)
+    first = next((m for m in panel["marks"] if by_number[m["number"]].network == "opened"), None)
+    for text, left, top, wide, high, anchor in panel["texts"]:
+        if not re.fullmatch(r"-?[\d,.]+", text):
+            continue
+        if anchor == "end" and scale:
+            ahead = int(text.replace(",", "")) - by_number[first["number"]].counter
+            check(near(top + high / 2, first["y"] - ahead * scale, 3),
+                  f"the counter {text} stands elsewhere in {panel['caption']}")
+        elif anchor == "middle":
+            when = float(text) * SECOND
+            before = max((mark for mark in marks if mark[0] <= when), default=(0, 0))
+            after = min((mark for mark in marks if mark[0] >= when), default=(0, panel["wide"]))
+            check(before[1] - 5 <= left + wide / 2 <= after[1] + 5,
+                  f"the time {text} stands elsewhere in {panel['caption']}")
+
+
 def judge_floor(panel, frames):
     """The floor: a step at each opened frame, to one above its counter, and on to the right end;
     what is stale stands below it."""
@@ -434,6 +455,8 @@ def judge_panels(seen, frames):
     senders = {(heard.pan, heard.sender) for heard in frames if drawn(heard)}
     check(len(seen["panels"]) == len(senders),
           f"{len(seen['panels'])} panels for {len(senders)} senders")
+    marks = {(by_number[mark["number"]].time, mark["x"])
+             for panel in seen["panels"][:8] for mark in panel["marks"]}
     for panel in seen["panels"]:
         own = sorted(mark["number"] for mark in panel["marks"])
         sender = by_number[own[0]].sender
@@ -442,6 +465,7 @@ def judge_panels(seen, frames):
               f"the panel {panel['caption']!r} has marks of others")
         judge_texts(panel)
         judge_counters(panel, by_number)
+        judge_ticks(panel, by_number, marks)
         judge_floor(panel, [by_number[number] for number in own])
 
 
