@@ -22,8 +22,8 @@ from bench_pipe import (BENCH_HELP, PROGRAM, ROOT, Bench, Differs, bench_words, 
 from capture import files, keys, show
 
 MODEL = [sys.executable, str(ROOT / "independent"), "bench", "--answer"]
-NO_KIT = ("rt is not found: put the Rattle kit on the path, or add --model, which runs the reference"
-          " in plain Python; its verdicts are not the proved ones.")
+NO_KIT = ("rt is not found: put the Rattle kit on the path, or add --model, which runs the "
+          "reference in plain Python; its verdicts are not the proved ones.")
 CAPTURE_NAMES = (".pcap", ".pcapng", ".cap", ".gz")
 READER_GONE = 141  # the exit code where whoever read what is printed has gone
 
@@ -117,7 +117,8 @@ def arguments():
         help="a device's link key that is known, behind its address; may be given again")
     add("--tsv", action="store_true", help="seven fields a frame, parted by tabs, and nothing else")
     add("--report", metavar="FILE.html", help="also write a page: counters over time, and the log")
-    add("--annotate", metavar="FILE.pcapng", help="also write the capture with verdicts in comments")
+    add("--annotate", metavar="FILE.pcapng",
+        help="also write the capture again with the verdicts as comments, for Wireshark")
     add("--frames", action="store_true", help="print only the network frames, as frame<TAB>hex")
     add("--chip-checksum", action="store_true", help="the sniffer's chip wrote signal strength and"
         " its own verdict over the checksums (as TI's CC24xx do)")

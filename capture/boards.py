@@ -95,8 +95,8 @@ class Boards:
         return self.ask(with_keys, "open", frame)[0]
 
     def open_aps(self, sender, frame):
-        """What the boards say of an APS frame from a sender, and the key that this goes by. A sender
-        that isn't known is asked about as one of which no key is known."""
+        """What the boards say of an APS frame from a sender, and the key that this goes by. A
+        sender that isn't known is asked about as one of which no key is known."""
         answer, board = self.ask(self.partners.get(sender), "openaps", sender or LISTENER, frame)
         return answer, board.partners.get(sender)
 

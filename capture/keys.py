@@ -63,7 +63,7 @@ def fault(text, number):
         if wrong:
             return f"character {place}, {character!r}, {wrong}"
     if text[-1:] in GAPS:
-        return "it is empty" if not text else f"character {len(text)} is a gap behind the last octet"
+        return f"character {len(text)} is a gap behind the last octet" if text else "it is empty"
     if len(SEPARATORS.sub("", text)) % 2:
         return f"its last octet, behind character {len(text)}, lacks a digit"
     return (f"it has {len(octets)} octets, and a label has "

@@ -22,8 +22,8 @@ def line(heard, name):
             if heard.source or heard.destination else "-")
     counter = "-" if heard.counter is None else heard.counter
     said = "; ".join([in_words(heard), *heard.notes])
-    return (f"{MARKS.get(name, ' ')} {heard.number:>6} {seconds(heard.time):>14}  {ends:16}  {heard.sender:16} "
-            f"{counter:>10}  {said}  [{inside(heard)}]")
+    return (f"{MARKS.get(name, ' ')} {heard.number:>6} {seconds(heard.time):>14}  {ends:16}  "
+            f"{heard.sender:16} {counter:>10}  {said}  [{inside(heard)}]")
 
 
 class Log:
@@ -62,9 +62,8 @@ class Log:
 
 def heard_of(listener):
     """Who was heard up to which counter: the floors of the listening boards."""
-    for pan, known in sorted(listener.pans.items(), key=lambda one: -1 if one[0] is None else one[0]):
-        if known.boards is None:
-            continue
+    heard = {pan: known for pan, known in listener.pans.items() if known.boards is not None}
+    for pan, known in sorted(heard.items(), key=lambda one: (one[0] is not None, one[0])):
         where = "no PAN" if pan is None else f"PAN 0x{pan:04x}"
         for number, senders in known.boards.heard():
             for sender, floor in senders:

@@ -1,4 +1,4 @@
-"""A capture shown: as the log, as lines for a machine, as a page, and written again with comments."""
+"""A capture shown: as the log, as lines for a machine, as a page, and written again."""
 
 import os
 import sys

@@ -144,7 +144,7 @@ def other_keys(desk, text):
              for word in ("--link-key", f"{owner}:{LABEL_KEY}")]
     found = desk.run(STORED, "--tsv", *keys, *links)[0]
     sure([row[5:] for row in rows(found)] == [row[5:] for row in rows(text)], "with all keys given")
-    says(desk.run(STORED, "--network-key", "0:" + "11" * 16)[1], "No network key that was given fits")
+    says(desk.run(STORED, "--network-key", "0:" + "11" * 16)[1], "key that was given fits")
     done("known keys")
 
 
@@ -159,7 +159,8 @@ def kinds(desk, text):
             "g": air.pcapng(frames)}
     for name, octets in made.items():
         sure(desk.run(desk.file(name, octets), *OF_THE_CAPTURE, "--tsv")[0] == text, name)
-    by_chip = desk.file("w.pcap", air.pcap([(moment, octets + b"\xc4\xeb") for moment, octets in bare]))
+    with_verdict = [(moment, octets + b"\xc4\xeb") for moment, octets in bare]
+    by_chip = desk.file("w.pcap", air.pcap(with_verdict))
     says(desk.run(by_chip, *OF_THE_CAPTURE)[1], "--chip-checksum")
     sure(desk.run(by_chip, *OF_THE_CAPTURE, "--tsv", "--chip-checksum")[0] == text, "by chip")
     done("kinds of files")
@@ -203,8 +204,8 @@ def cut_files(desk, text):
 def no_captures(desk):
     """Files that are none, and captures in which nothing is found."""
     for name, octets, words in (("o.txt", b"hello\n", "no pcap or pcapng file"),
-                                ("p.pcap", b"", "is empty"), ("q.gz", gzip.compress(b"x"), "no pcap"),
-                                ("r.pcapng", b"\x0a\x0d", "no pcap")):
+                                ("p.pcap", b"", "is empty"), ("r.pcapng", b"\x0a\x0d", "no pcap"),
+                                ("q.gz", gzip.compress(b"x"), "no pcap")):
         found, beside = desk.run(desk.file(name, octets), *OF_THE_CAPTURE, code=2)
         says(beside, words)
         sure(not found, "printed", found)
@@ -220,8 +221,9 @@ def no_captures(desk):
 
 
 def no_labels(desk):
-    """Labels that are none are refused with their number and the place, before a line is printed."""
-    for text, words in ((LABEL[:-1] + "6", ("16 crc", "C3 B6")), (LABEL[:-6], ("15 label", "16 octets")),
+    """Labels that are none are refused, with number and place, before a line is printed."""
+    for text, words in ((LABEL[:-1] + "6", ("16 crc", "C3 B6")),
+                        (LABEL[:-6], ("15 label", "16 octets")),
                         (LABEL.replace("40", "4O"), ("15 label", "character 11, 'O'")),
                         (LABEL + " ", ("15 label", "character 54")), ("", ("15 label", "empty")),
                         (" " + LABEL, ("15 label", "character 1, ' '")),

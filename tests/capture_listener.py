@@ -199,7 +199,8 @@ def forms(words):
     scene.network(frame, "opened", SECOND, "0", "-", "0701")
     wrong = sealing.aps(LABEL_KEYS[0], 0, CENTRE, 77, b"\x01\x01\x0d")
     scene.secured(KEYS[0], 0, CENTRE, wrong, "opened", "11 command 0d")
-    route = plain(SECOND, CENTRE, b"", 0x1C08) + address(CENTRE) + address(SECOND) + b"\x01\x00\xee\x0b"
+    route = (plain(SECOND, CENTRE, b"", 0x1C08) + address(CENTRE) + address(SECOND)
+             + b"\x01\x00\xee\x0b")
     frame = sealing.network(KEYS[0], 0, SECOND, 1, route + DATA + b"r", len(route))
     scene.network(frame, "opened", SECOND, "1", "unsecured", "72")
     scene.play(words)
@@ -324,8 +325,9 @@ def short_form(words):
         scene.network(frame, "opened", "0000000100000000", ANYTHING, aps, inside)
 
     short(JOINER, KEYS[1], NO_KEY, ANYTHING)
-    announcement = b"\x08\x00\x13\x00\x00\x00\x00\x05" + b"\x01" + least(0x0BEE, 2) + address(JOINER)
-    scene.secured(KEYS[0], 0, CENTRE, announcement + b"\x8e", "unsecured", ANYTHING)
+    announcement = (bytes.fromhex("0800130000000005") + b"\x01" + least(0x0BEE, 2)
+                    + address(JOINER) + b"\x8e")
+    scene.secured(KEYS[0], 0, CENTRE, announcement, "unsecured", ANYTHING)
     short(JOINER, KEYS[1], "opened", "73")
     short(SECOND, KEYS[2], NO_KEY, ANYTHING)
     scene.secured(KEYS[0], 0, SECOND, DATA, "unsecured", "")

@@ -42,7 +42,8 @@ from capture.words import in_words as verdict_of
 from first_capture import LABEL, STORED
 
 PATIENCE = 120           # seconds for Chromium
-USABLE = {"writing": 5, "loading": 10, "a jump": 3}  # seconds that a page of 10,000 frames may take
+USABLE = {"writing": 1.5, "loading": 10, "a jump": 2}  # seconds that 10,000 frames may take
+TRIES = 3
 POLICY = re.compile(r'<meta http-equiv="Content-Security-Policy"[^>]*>')
 SIGNS = {"opened": "●", "genuine": "▲", "altered": "◆", "forged": "✕", "nokey": "□", "refused": "○"}
 TOLD = ("opened", "genuine", "altered", "forged")  # what a colour-blind reader must tell apart
@@ -691,12 +692,16 @@ def made_up(chromium, folder, title, frames, **others):
 
 
 def ten_thousand(chromium, folder):
-    """The page of 10,000 frames, timed."""
-    seen, took, path = made_up(chromium, folder, "10,000 frames", many_frames())
-    took = {"writing": took, "loading": seen["loading"] / 1000,
-            "a jump": max(jump["took"] for jump in seen["jumps"]) / 1000}
-    for what, most in USABLE.items():
-        check(took[what] <= most, f"{what} takes {took[what]:.1f} s, more than {most}")
+    """The page of 10,000 frames, timed; a machine that was busy elsewhere is given further tries."""
+    for tries_left in reversed(range(TRIES)):
+        seen, took, path = made_up(chromium, folder, "10,000 frames", many_frames())
+        took = {"writing": took, "loading": seen["loading"] / 1000,
+                "a jump": max(jump["took"] for jump in seen["jumps"]) / 1000}
+        slow = [f"{what} takes {took[what]:.1f} s, more than {most}"
+                for what, most in USABLE.items() if took[what] > most]
+        if not slow:
+            break
+        check(tries_left, "; ".join(slow))
     times = ", ".join(f"{what} {took[what]:.2f} s" for what in took)
     print(f"10,000 frames: {marks_and_lines(seen)}; {path.stat().st_size / 10**6:.1f} MB, {times}",
           flush=True)
