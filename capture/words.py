@@ -122,8 +122,9 @@ def advice(counts, listener):
     if not sum(counts.values()):
         yield "The capture has no frame."
     elif not asked and counts["spoilt"]:
-        yield ("No frame could be asked about. Where all checksums are wrong, the sniffer's chip "
-               "may have written signal strength in their place: try --chip-checksum.")
+        yield ("No frame could be asked about. Where they are cut, let the sniffer store whole "
+               "frames. Where all checksums are wrong, its chip may have written signal strength "
+               "in their place: try --chip-checksum.")
     elif not asked or asked == counts["refused"]:
         yield "No Zigbee network frame is in this capture."
     elif counts["nokey"] and listener.known[0] and not listener.has_network_key():
