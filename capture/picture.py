@@ -34,6 +34,7 @@ SHAPES = {
               "l-3.5-3.5l2.1-2.1z",
 }
 SMALL = {"opened": "m-2.6 0a2.6 2.6 0 1 0 5.2 0a2.6 2.6 0 1 0-5.2 0z"}
+WRONG = ("genuine", "altered", "forged")
 FITTED = ("opened", "8 stale genuine", "10 full")  # verdicts on frames whose tags fitted
 
 
@@ -66,15 +67,20 @@ class Picture:
         return True
 
     def panels(self):
-        """The panels: first those of the senders that were opened, in the order heard."""
+        """The panels: first those with a frame that somebody sent again, altered or forged, then
+        those of the other senders that were opened, each in the order heard."""
         if not self.senders:
             return
         times = TimeAxis(sorted({mark.time for marks in self.senders.values() for mark in marks}))
         high, low = next((high, low) for most, high, low in HEIGHTS
                          if most is None or len(self.senders) <= most)
-        known = sorted(self.senders.items(), key=lambda one: not any(m.opened for m in one[1]))
-        for (pan, sender), marks in known:
+        for (pan, sender), marks in sorted(self.senders.items(), key=lambda one: told_last(one[1])):
             yield figure(pan, sender, Panel(times, marks, low if len(marks) <= FEW else high))
+
+
+def told_last(marks):
+    """What panels are sorted by: whether nothing in one is wrong, and nothing was opened."""
+    return not any(mark.name in WRONG for mark in marks), not any(mark.opened for mark in marks)
 
 
 # ---- axes --------------------------------------------------------------------------------------

@@ -89,6 +89,15 @@ class Reader:
             return found, str(fault).replace(str(path), "FILE")
         return found, None
 
+    def passed_on(self, octets):
+        """What is passed on of a file with these octets, since it is no frame."""
+        self.write(octets)
+        passed = []
+        with closing(files.Capture(self.path)) as capture:
+            capture.passed_on = passed.append
+            same("frames", sum(1 for _ in capture.packets()), capture.number)
+        return passed
+
     def compare(self, what, octets, asked, words=None):
         """A file has these frames, and ends with these words."""
         same(what, self.read(octets), (asked, words))
@@ -202,18 +211,21 @@ def pcapng_times(reader):
                 ("of two octets", air.option(order, 9, b"\x09\x00"), 1000),
                 ("cut", struct.pack(order + "HH", 9, 5) + b"\x09\0\0\0", 1000),
                 ("beside an offset of 4 octets", air.option(order, 14, b"\1\1\1\1") + nano, 1),
+                ("before a cut offset", nano + struct.pack(order + "HHq", 14, 12, 1), 1),
                 ("twice", air.option(order, 9, b"\x03") + nano, 1)):
             octets = (air.section(order) + air.interface(195, order, options)
                       + air.enhanced(1, CHECKED, order=order))
             reader.compare(f"a resolution {what}", octets, [stored(asked, CHECKED)])
-    return f"{len(TIMES)} resolutions and offsets, and 6 forms of options, in both orders"
+    return f"{len(TIMES)} resolutions and offsets, and 7 forms of options, in both orders"
 
 
 def parts(order, other):
     """A pcapng file in parts, the frame that each has or None: sections in both orders, several
     interfaces, every kind of packet block, and blocks that are none."""
     wrong = air.option(order, 1, b"odd") + air.option(order, 2, struct.pack(order + "I", 1 << 24))
-    others = air.option(order, 2, struct.pack(order + "I", 0xFE00_0005))  # every other error
+    others = (air.option(order, 2, b"\xff\xff") + air.option(order, 5, b"\xff\xff\xff\xff")
+              + air.option(order, 2, struct.pack(order + "I", 0xFE00_0005)))  # every other error
+    cut = struct.pack(order + "HH", 2, 8) + b"\xff\xff\xff\xff"
     nano = air.option(other, 9, b"\x09")
     return (
         (air.section(order), None),
@@ -224,6 +236,8 @@ def parts(order, other):
         (air.simple(CHECKED[:5], order), stored(TIME // 1000 * 1000, CHECKED[:5])),
         (air.interface(230, order), None),
         (air.enhanced(1, FRAME, 1, order), stored(1000, FRAME, 230)),
+        (air.simple(CHECKED[:6], order, 9), stored(1000, CHECKED[:6], length=9)),
+        (air.simple(b"", order), stored(1000, b"")),
         (air.enhanced(2, FRAME, 2, order), stored(2000, FRAME, None)),
         (air.enhanced(3, b"", 0, order), stored(3000, b"")),
         (air.block(order, 5, bytes(12)), None),
@@ -231,7 +245,7 @@ def parts(order, other):
         (air.enhanced(5, CHECKED[:9], 0, order, 21), stored(5000, CHECKED[:9], length=21)),
         (air.enhanced(6, CHECKED, 0, order, None, wrong), stored(6000, CHECKED, spoilt=True)),
         (air.enhanced(7, CHECKED, 0, order, None, others), stored(7000, CHECKED)),
-        (air.old(8, CHECKED, 0, order), stored(8000, CHECKED)),
+        (air.old(8, CHECKED, 0, order, None, cut), stored(8000, CHECKED)),
         (air.old(9, CHECKED[:9], 1, order, 21, wrong),
          stored(9000, CHECKED[:9], 230, 21, True)),
         (air.section(other), None),
@@ -252,6 +266,8 @@ def pcapng(reader):
         whole, ends = b"".join(octets), list(accumulate(map(len, octets)))
         asked = [frame for frame in frames if frame]
         reader.compare("pcapng", whole, asked)
+        same("other blocks", reader.passed_on(whole),
+             [part for part, frame in zip(octets, frames) if not frame])
         for size in range(len(whole)):
             there = [frame for end, frame in zip(ends, frames) if end <= size and frame]
             words = (f"the file ends in the middle of the block behind frame {len(there)}" if there
@@ -265,7 +281,8 @@ def pcapng(reader):
 
 
 def damaged(order):
-    """Files that are damaged behind some frames: how many those are, the octets, and the words."""
+    """Files that are damaged behind some frames: how many those are, the octets, and the words,
+    None where the file merely ends in the middle of a block that could be."""
     start = air.section(order) + air.interface(195, order)
     packet = air.enhanced(1, CHECKED, order=order)
     first, behind = "one of its first blocks", "the block behind frame 1"
@@ -277,6 +294,7 @@ def damaged(order):
         yield 0, start[:32] + number + start[36:], f"{first} would have {size} octets"
         yield (1, start + packet + packet[:4] + number + packet[8:],
                f"{behind} would have {size} octets")
+    yield 1, start + packet + packet[:4] + struct.pack(order + "I", 16 * 1024**2), None
     for octets in (packet[:-4] + struct.pack(order + "I", 60),
                    packet[:4] + struct.pack(order + "I", 52) + packet[8:]):
         yield 1, start + packet + octets, f"{behind} doesn't end where it says"
@@ -290,7 +308,8 @@ def pcapng_damaged(reader):
     for order in ORDERS:
         for frames, octets, words in damaged(order):
             reader.compare(words, octets, [stored(1000, CHECKED)] * frames,
-                           f"the file is damaged: {words}")
+                           f"the file is damaged: {words}" if words
+                           else "the file ends in the middle of the block behind frame 1")
             count += 1
         start = air.section(order) + air.interface(195, order)
         packet = air.enhanced(1, CHECKED, order=order)
@@ -486,8 +505,10 @@ ETHERNET = (
     ("to ZEP's port", altered(DATAGRAM, 34, b"\0\x35"), FRAME),
     ("other ports", altered(DATAGRAM, 34, b"\0\x35\0\x35"), OTHER),
     ("IPv6", air.ethernet(0x86DD, air.ipv6(air.udp(air.zep2(CHECKED)))), FRAME),
+    ("IPv6, not named", air.ethernet(0x86DC, air.ipv6(air.udp(air.zep2(CHECKED)))), OTHER),
     ("IPv6, cut", air.ethernet(0x86DD, air.ipv6(b"")[:39]), OTHER),
-    ("IPv6, other headers", air.ethernet(0x86DD, air.ipv6(bytes(8), 0)), OTHER),
+    ("IPv6, cut behind its header", air.ethernet(0x86DD, air.ipv6(b"")), OTHER),
+    ("IPv6, TCP", air.ethernet(0x86DD, air.ipv6(air.udp(air.zep2(CHECKED)), 6)), OTHER),
 )
 ZEP = tuple((what, in_ipv4(octets), asked) for what, octets, asked in (
     ("version 1, mode 1", air.zep1(CHECKED), FRAME),
@@ -499,6 +520,8 @@ ZEP = tuple((what, in_ipv4(octets), asked) for what, octets, asked in (
     ("version 1, mode 2", air.zep1(CHECKED, 2), FRAME),
     ("version 1, no frame", air.zep1(b""), SHORT_OF_CHECKSUM),
     ("version 1, mode 0, no frame", air.zep1(b"", 0), SHORT_OF_CHECKSUM),
+    ("version 1, mode 0, half a verdict", air.zep1(b"\xe5", 0), SHORT_OF_CHECKSUM),
+    ("version 1, mode 0, a verdict alone", air.zep1(b"\x20\xe5", 0), b""),
     ("version 1, the length's first bit", altered(air.zep1(CHECKED), 15, b"\x95"), FRAME),
     ("version 1, cut", air.zep1(CHECKED)[:-1], "cut: 20 of 21 octets"),
     ("version 1, a length of 127", altered(air.zep1(CHECKED), 15, b"\x7f"),
@@ -533,6 +556,7 @@ TAP = (
     ("a checksum of 32 bits", air.tap(LONG_CHECKSUM, TYPES[2]), FRAME),
     ("a wrong one of 32 bits", air.tap(flipped(LONG_CHECKSUM, 5), TYPES[2]), WRONG),
     ("32 bits cut", air.tap(b"\0\0\0", TYPES[2]), SHORT_OF_CHECKSUM),
+    ("32 bits alone", air.tap(bytes.fromhex("1cdf4421"), TYPES[2]), b""),
     ("another checksum", air.tap(CHECKED, TYPES[3]), "TAP, with checksum 3"),
     ("other fields, no checksum", air.tap(FRAME, CHANNEL), FRAME),
     ("other fields before it", air.tap(CHECKED, CHANNEL + air.tap_field(99, b"x") + TYPES[1]),
@@ -560,7 +584,8 @@ def link_types(_reader):
     """Link types with and without checksum, others, and what a sniffer cut."""
     for link, octets, asked in (
             (195, CHECKED, FRAME), (195, bytes.fromhex("02006ae479"), b"\2\0\x6a"),
-            (195, b"", SHORT_OF_CHECKSUM), (195, b"\0", SHORT_OF_CHECKSUM), (195, CHIP, WRONG),
+            (195, b"", SHORT_OF_CHECKSUM), (195, b"\0", SHORT_OF_CHECKSUM), (195, b"\0\0", b""),
+            (195, CHIP, WRONG),
             (230, FRAME, FRAME), (230, CHECKED, CHECKED), (230, b"", b""),
             (147, FRAME, "link type 147"), (0, b"", "link type 0"),
             (None, FRAME, "an interface that the file doesn't describe")):
@@ -568,7 +593,7 @@ def link_types(_reader):
         same(f"link type {link}, cut", inside(link, octets, 200),
              f"cut: {len(octets)} of 200 octets")
         same(f"link type {link}, found wrong", inside(link, octets, None, True), WRONG)
-    return "11 frames, and the same cut or found wrong by the sniffer"
+    return "12 frames, and the same cut or found wrong by the sniffer"
 
 
 def checksums(_reader):
