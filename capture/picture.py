@@ -15,13 +15,14 @@ from .words import CLASSES, in_words, seconds
 
 WIDTH = 940                        # pixels of a panel, where it is shown in its own size
 LEFT, RIGHT, TOP, BOTTOM = 104, 26, 24, 44
+CAPTION = 42                       # with the frame around both
 EDGE, BAND = 12, 20                # between the axes and the marks; the bands above and below
 HEIGHTS = ((12, 190, 110), (60, 120, 90), (None, 84, 84))  # up to so many panels: high, and low
 FEW = 8                            # marks, up to which a panel is a low one
 CUT, MOST_CUTS = 66, 6             # how wide a silence is that was cut out, and how many there are
 DIGIT, APART, LABEL = 7, 22, 22    # pixels of a digit, between labels in a line, and under another
 LEAST_REACH = 4                    # counters so far out of range that are still drawn to scale
-DENSE = 300                        # marks of a panel from which on those of opened frames are small
+DENSE = 80                         # marks of a class in a panel, above which they are small
 
 # The marks in the order in which they are drawn, the rare ones last: each a path behind its centre.
 SHAPES = {
@@ -33,7 +34,15 @@ SHAPES = {
     "forged": "m0-2.1l3.5-3.5l2.1 2.1l-3.5 3.5l3.5 3.5l-2.1 2.1l-3.5-3.5l-3.5 3.5l-2.1-2.1l3.5-3.5"
               "l-3.5-3.5l2.1-2.1z",
 }
-SMALL = {"opened": "m-2.6 0a2.6 2.6 0 1 0 5.2 0a2.6 2.6 0 1 0-5.2 0z"}
+SMALL = {
+    "opened": "m-2.6 0a2.6 2.6 0 1 0 5.2 0a2.6 2.6 0 1 0-5.2 0z",
+    "nokey": "m-2.7-2.7h5.4v5.4h-5.4z",
+    "refused": "m-2.7 0a2.7 2.7 0 1 0 5.4 0a2.7 2.7 0 1 0-5.4 0z",
+    "genuine": "m0-3.6l4 7.2h-8z",
+    "altered": "m0-4.4l3.8 4.4l-3.8 4.4l-3.8-4.4z",
+    "forged": "m0-1.4l2.2-2.2l1.4 1.4l-2.2 2.2l2.2 2.2l-1.4 1.4l-2.2-2.2l-2.2 2.2l-1.4-1.4l2.2-2.2"
+              "l-2.2-2.2l1.4-1.4z",
+}
 WRONG = ("genuine", "altered", "forged")
 FITTED = ("opened", "8 stale genuine", "10 full")  # verdicts on frames whose tags fitted
 
@@ -261,15 +270,15 @@ class Panel:
 
     def drawn_marks(self):
         """The marks by class, each with a link to the line of its frame."""
-        shapes = SHAPES | SMALL if len(self.marks) > DENSE else SHAPES
-        for name, shape in shapes.items():
+        for name in SHAPES:
+            marks = [mark for mark in self.marks if mark.name == name]
+            shape, small = (SMALL[name], " small") if len(marks) > DENSE else (SHAPES[name], "")
             drawn = "".join(
                 f'<a id="m{mark.number}" href="#f{mark.number}">'
                 f'<path d="M{self.times.x(mark.time):.1f} {self.y(mark.counter):.1f}{shape}">'
-                f'<title>{escape(self.said(mark))}</title></path></a>'
-                for mark in self.marks if mark.name == name)
+                f'<title>{escape(self.said(mark))}</title></path></a>' for mark in marks)
             if drawn:
-                yield f'<g class="{name}">{drawn}</g>'
+                yield f'<g class="{name}{small}">{drawn}</g>'
 
     def said(self, mark):
         """What is said of a frame where the pointer stands on its mark."""
@@ -285,8 +294,10 @@ def figure(pan, sender, panel):
     names = [mark.name for mark in panel.marks]
     counts = ", ".join(f"{names.count(name)} {words}" for name, words in CLASSES.items()
                        if name in names)
-    return (f'<figure class="panel"><figcaption><h3>Sender <code>{escape(sender)}</code>, {where}'
+    high = TOP + panel.height + BOTTOM
+    return (f'<figure class="panel" style="contain-intrinsic-size: auto {high + CAPTION}px">'
+            f'<figcaption><h3>Sender <code>{escape(sender)}</code>, {where}'
             f'</h3> <span>{counts}</span></figcaption><div class="box">'
-            f'<svg role="img" viewBox="0 0 {WIDTH} {TOP + panel.height + BOTTOM}" '
+            f'<svg role="img" viewBox="0 0 {WIDTH} {high}" '
             f'aria-label="Counters of {escape(sender)} over time: {counts}">'
             f'{panel.draw()}</svg></div></figure>\n')

@@ -15,7 +15,10 @@ from .words import CLASSES, class_of, in_words, inside, seconds
 SIGNS = {"opened": "●", "unsecured": "–", "genuine": "▲", "altered": "◆", "forged": "✕",
          "nokey": "□", "refused": "○", "passed": "·", "spoilt": "~"}
 COLUMNS = ("frame", "time in s", "from → to", "sender", "counter", "verdict", "inside")
-CHUNK, LINE = 100, 28  # lines of the log that are laid out together, and pixels of one
+CHUNK = 25  # lines of the log that are laid out together
+# Pixels around a line; of a row of text, and its letters, in the columns where text can be long, on
+# a page of 1,000 pixels: time, from and to, verdict, inside.
+AROUND, ROWS = 8, ((18, 15), (18, 17), (20, 24), (18, 24))
 
 # The four colours that matter are of Okabe and Ito's palette, and differ in lightness too.
 STYLE = """
@@ -45,7 +48,7 @@ code { font-size: .92em }
   overflow: auto; border: 1px solid var(--rule); border-radius: 6px }
 .heard li { font-size: .78rem; padding: .12rem 0 .12rem 1.2em; text-indent: -1.2em }
 .panel { margin: .9rem 0 0; padding: .6rem .7rem .2rem; border: 1px solid var(--rule);
-  border-radius: 6px; content-visibility: auto; contain-intrinsic-size: auto 250px }
+  border-radius: 6px; content-visibility: auto }
 .panel span { color: var(--soft); margin-left: .6rem; font-size: .9rem }
 .box { overflow-x: auto; overflow-y: hidden }
 .box svg { display: block; width: 100%; min-width: 680px; margin-top: .3rem }
@@ -64,6 +67,10 @@ svg .genuine path { fill: var(--genuine); stroke: #1c1c1c }
 svg .altered path { fill: var(--altered); stroke: #1c1c1c }
 svg .forged path { fill: var(--forged); stroke: #fff; stroke-width: .6 }
 svg .nokey path, svg .refused path { fill: #fff; stroke: var(--soft); stroke-width: 1.6 }
+svg .small path { stroke-width: .5 }
+svg .small.genuine path { stroke: #805800 }
+svg .small.altered path { stroke: #703a58 }
+svg .small.nokey path, svg .small.refused path { stroke-width: 1 }
 svg a:hover path, svg a:focus path { stroke: #1c1c1c; stroke-width: 3; paint-order: stroke }
 svg a:target path { stroke: #1c1c1c; stroke-width: 7; paint-order: stroke }
 svg a { outline-offset: 3px; scroll-margin: 40vh 0 }
@@ -71,7 +78,7 @@ table, thead, tbody { display: block }
 tbody { content-visibility: auto }
 tr { display: grid; align-items: baseline; border-bottom: 1px solid #e4e4e4;
   border-left: 5px solid transparent; scroll-margin: 40vh 0; grid-template-columns:
-  5rem 6.7rem 8.4rem 8.4rem 5.8rem minmax(0, 1fr) minmax(0, 1fr) }
+  5rem 7.5rem 8.4rem 8.4rem 5.8rem minmax(0, 1fr) minmax(0, 1fr) }
 thead { position: sticky; top: 0; z-index: 1 }
 thead tr { background: #ececec }
 th, td { padding: .22rem .4rem; font-size: .78rem; text-align: left }
@@ -175,23 +182,29 @@ def heard_up_to(listener):
 # ---- the log -----------------------------------------------------------------------------------
 
 def line(heard, name, marked):
-    """The line of a frame; its number is a link where the frame has a mark."""
+    """The line of a frame, and about how many pixels high it is. Its number is a link where the
+    frame has a mark."""
     frame = f"<b>{SIGNS[name]}</b>{heard.number}"
-    cells = (f'<a href="#m{heard.number}">{frame}</a>' if marked else frame, seconds(heard.time),
-             escape(f"{address(heard.source)} → {address(heard.destination)}"),
-             escape(heard.sender or "-"), "-" if heard.counter is None else heard.counter,
-             escape("; ".join([in_words(heard), *heard.notes])), escape(inside(heard)))
+    texts = (seconds(heard.time), f"{address(heard.source)} → {address(heard.destination)}",
+             "; ".join([in_words(heard), *heard.notes]), inside(heard))
+    when, ends, said, within = map(escape, texts)
+    cells = (f'<a href="#m{heard.number}">{frame}</a>' if marked else frame, when, ends,
+             escape(heard.sender or "-"), "-" if heard.counter is None else heard.counter, said,
+             within)
+    rows = max(high * (1 + len(text) // letters) for text, (high, letters) in zip(texts, ROWS))
     return (f'<tr id="f{heard.number}" class="{name}">'
-            + "".join([f"<td>{cell}</td>" for cell in cells]) + "</tr>\n")
+            + "".join([f"<td>{cell}</td>" for cell in cells]) + "</tr>\n"), AROUND + rows
 
 
 def table(lines):
-    """The log, in bodies of some lines each, so that a browser lays out only those in sight."""
+    """The log, in bodies of some lines each, of which a browser lays out only those in sight; it is
+    told how high the others are, so that a line that is asked for stays where it was found."""
     heading = "".join(f'<th scope="col">{words}</th>' for words in COLUMNS)
     yield f'<div class="log"><table><thead><tr>{heading}</tr></thead>\n'
     for start in range(0, len(lines), CHUNK):
         chunk = lines[start:start + CHUNK]
-        yield f'<tbody style="contain-intrinsic-size: auto {LINE * len(chunk)}px">\n'
-        yield from chunk
+        height = sum(height for _, height in chunk)
+        yield f'<tbody style="contain-intrinsic-size: auto {height}px">\n'
+        yield from (text for text, _ in chunk)
         yield "</tbody>\n"
     yield "</table></div>\n"

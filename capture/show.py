@@ -48,12 +48,15 @@ def frames(capture, by_chip):
 
 
 def outputs_apart(given):
-    """Refuses to write over the capture, or twice to one file."""
+    """Refuses to write over the capture, or twice to one file, and what can't be written at all:
+    now, and not when all was heard."""
     named = [name for name in (given.file, given.annotate, given.report) if name]
     real = [os.path.realpath(name) for name in named]
     for place, name in enumerate(named):
         if real[place] in real[:place]:
             raise files.NoCapture(f"{name} would be written over")
+    for name in named[1:]:
+        open(name, "ab").close()
 
 
 class Shown:

@@ -1,7 +1,5 @@
 """What the log says of a frame: its class, the verdict in words, and what is inside."""
 
-from .files import SECOND
-
 # The classes of the log, in its order: a word for the report's marks, and what the count says.
 CLASSES = {
     "opened": "opened",

@@ -467,7 +467,14 @@ def altered(octets, place, new):
     return octets[:place] + new + octets[place + len(new):]
 
 
-DATAGRAM = in_ipv4(air.zep2(CHECKED))
+def ends_with_zero(size):
+    """The first frame of so many octets whose checksum ends with a zero."""
+    return next(frame for number in range(1 << 16)
+                if not air.with_checksum(frame := bytes(size - 2) + least(number, 2))[-1])
+
+
+DATAGRAM, DATAGRAM_6 = in_ipv4(air.zep2(CHECKED)), air.ethernet(
+    0x86DD, air.ipv6(air.udp(air.zep2(CHECKED))))
 ETHERNET = (
     ("EtherType 0x809a", air.ethernet(0x809A, CHECKED), FRAME),
     ("filled up", FILLED, FRAME),
@@ -475,6 +482,9 @@ ETHERNET = (
     ("filled up, the tag counted", TAGGED[:60], FRAME),
     ("a wrong checksum", air.ethernet(0x809A, SPOILT), WRONG),
     ("a wrong checksum, filled up", air.ethernet(0x809A, SPOILT).ljust(60, b"\0"), WRONG),
+    *((f"{size} octets, not filled up, the last zero",
+       air.ethernet(0x809A, air.with_checksum(ends_with_zero(size))), ends_with_zero(size))
+      for size in (43, 45)),
     ("nothing but zeros", air.ethernet(0x809A, bytes(46)), SHORT_OF_CHECKSUM),
     ("nothing", air.ethernet(0x809A, b""), SHORT_OF_CHECKSUM),
     ("a tag", air.ethernet(0x809A, CHECKED, [0x8100]), FRAME),
@@ -487,9 +497,10 @@ ETHERNET = (
     ("IPv4", DATAGRAM, FRAME),
     ("IPv4 behind a tag", air.ethernet(0x0800, DATAGRAM[14:], [0x8100]), FRAME),
     ("IPv4 with options", in_ipv4(air.zep2(CHECKED), options=b"\1\1\1\0"), FRAME),
+    ("IPv4 with all options", in_ipv4(air.zep2(CHECKED), options=bytes(40)), FRAME),
     ("IPv4, not to be parted", in_ipv4(air.zep2(CHECKED), part=0x4000), FRAME),
     ("IPv4, the first part", in_ipv4(air.zep2(CHECKED), part=0x2000), "a fragment of IPv4"),
-    ("IPv4, another part", in_ipv4(air.zep2(CHECKED), part=5), "a fragment of IPv4"),
+    ("IPv4, another part", in_ipv4(air.zep2(CHECKED), part=1), "a fragment of IPv4"),
     ("IPv4 of 40 octets of header", altered(DATAGRAM, 14, b"\x4a"), OTHER),
     ("IPv4 of 16 octets of header", altered(DATAGRAM, 14, b"\x44"), OTHER),
     ("IPv4 of version 5", altered(DATAGRAM, 14, b"\x55"), OTHER),
@@ -504,11 +515,14 @@ ETHERNET = (
     ("from ZEP's port", altered(DATAGRAM, 36, b"\0\x35"), FRAME),
     ("to ZEP's port", altered(DATAGRAM, 34, b"\0\x35"), FRAME),
     ("other ports", altered(DATAGRAM, 34, b"\0\x35\0\x35"), OTHER),
-    ("IPv6", air.ethernet(0x86DD, air.ipv6(air.udp(air.zep2(CHECKED)))), FRAME),
-    ("IPv6, not named", air.ethernet(0x86DC, air.ipv6(air.udp(air.zep2(CHECKED)))), OTHER),
+    ("a datagram cut in its header", DATAGRAM[:41], OTHER),
+    ("IPv6", DATAGRAM_6, FRAME),
+    ("IPv6, not named", altered(DATAGRAM_6, 12, b"\x86\xdc"), OTHER),
+    ("IPv6 of length 30", altered(DATAGRAM_6, 18, b"\0\x1e"), UNKNOWN_ZEP),
+    ("IPv6 of length 286", altered(DATAGRAM_6, 18, b"\1\x1e"), FRAME),
     ("IPv6, cut", air.ethernet(0x86DD, air.ipv6(b"")[:39]), OTHER),
     ("IPv6, cut behind its header", air.ethernet(0x86DD, air.ipv6(b"")), OTHER),
-    ("IPv6, TCP", air.ethernet(0x86DD, air.ipv6(air.udp(air.zep2(CHECKED)), 6)), OTHER),
+    ("IPv6, TCP", altered(DATAGRAM_6, 20, b"\6"), OTHER),
 )
 ZEP = tuple((what, in_ipv4(octets), asked) for what, octets, asked in (
     ("version 1, mode 1", air.zep1(CHECKED), FRAME),
@@ -568,7 +582,7 @@ TAP = (
     ("a type without its octet", air.tap(CHECKED, TYPES[1][:4]), NO_TAP),
     ("a type not filled up", air.tap(CHECKED, TYPES[1][:5]), FRAME),
     ("a field that is cut", air.tap(CHECKED, TYPES[1] + b"\3\0\5\0\0\0\0\0"), NO_TAP),
-    ("half of a field", air.tap(CHECKED, TYPES[1] + b"\3\0"), FRAME),
+    ("3 octets of a field", air.tap(CHECKED, TYPES[1] + b"\3\0\0"), FRAME),
     ("another version", b"\1" + air.tap(CHECKED, TYPES[1])[1:], NO_TAP),
     ("a length of 3", altered(air.tap(FRAME), 2, b"\3"), NO_TAP),
     ("a length beyond it", altered(air.tap(FRAME), 2, b"\x18"), NO_TAP),
@@ -665,7 +679,7 @@ ELEMENTS = (
     ("82 3f aa bb", PAYLOAD),
     ("00 3f 00 f8", PAYLOAD), (f"00 3f {INSIDE} 00 f8", PAYLOAD), ("02 3f aa bb 00 f8", PAYLOAD),
     (f"{HEADER} 00 3f {INSIDE} 01 b8 64 00 f8", PAYLOAD), ("00 3f 02 f8 aa bb", PAYLOAD),
-    (f"00 3f c8 b0 {'00' * 200} 00 f8", PAYLOAD),
+    ("00 3f 01 f0 64 00 f8", PAYLOAD), (f"00 3f c8 b0 {'00' * 200} 00 f8", PAYLOAD),
     (f"00 3f 2c b1 {'00' * 300} 00 f8", PAYLOAD),
 )
 WITHOUT_PAYLOAD = (
@@ -685,6 +699,7 @@ NAMES = (
     ("00a2 77 d1d0 4d3c 0018", "beacon"),
     ("0200 77", "ack"),
     ("1210 77", "ack"),
+    ("42cc 77", "ack"),
     ("022a 77 d1d0 2b1a 02 18 aa bb", "ack"),
     ("4388 77 d1d0 2b1a 4d3c 01", "MAC command (association request)"),
     ("4388 77 d1d0 2b1a 4d3c 02", "MAC command (association response)"),
@@ -707,6 +722,7 @@ NAMES = (
     ("0600 77", "MAC fragment"),
     ("0700 77", "extended MAC frame"),
     ("41b8 77 d1d0 2b1a 4d3c f00d", "MAC frame of another version"),
+    ("43b8 77 d1d0 2b1a 4d3c 04", "MAC frame of another version"),
     ("4184 77 d1d0 2b1a 4d3c f00d", "MAC frame with a reserved mode of addressing"),
     ("4148 77 d1d0 2b1a 4d3c f00d", "MAC frame with a reserved mode of addressing"),
     ("032a 77 ffff ffff 0318aa", CUT),
@@ -792,12 +808,16 @@ def elements(_reader):
 
 
 def names(_reader):
-    """What is passed over, by its name; and the beacon's PAN and sender."""
+    """What is passed over, by its name; and who sent it to whom, where it tells."""
     for digits, asked in NAMES:
         same(f"frame {digits}", read(bytes.fromhex(digits)), asked)
-    beacon = mac.read(bytes.fromhex(NAMES[0][0]))
-    same("a beacon", (beacon.pan, beacon.source, beacon.destination, beacon.payload),
-         (TO_PAN, BY[SHORT], "", b""))
+    for digits, source, destination in (("0080 77 d1d0 4d3c ffcf0000", BY[SHORT], ""),
+                                        ("0228 77 d1d0 2b1a", "", TO[SHORT]),
+                                        ("6388 77 d1d0 2b1a 4d3c 04", BY[SHORT], TO[SHORT]),
+                                        ("4988 77 d1d0 2b1a 4d3c 0d", BY[SHORT], TO[SHORT])):
+        frame = mac.read(bytes.fromhex(digits))
+        same(f"the ends of frame {digits}", (frame.pan, frame.source, frame.destination,
+                                             frame.payload), (TO_PAN, source, destination, b""))
     return f"{len(NAMES)} frames by their names"
 
 

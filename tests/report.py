@@ -18,6 +18,7 @@ something differs, 2 where Chromium is missing or fails.
 
 import argparse
 import json
+import os
 import re
 import shutil
 import subprocess
@@ -42,8 +43,8 @@ from capture.words import in_words as verdict_of
 from first_capture import LABEL, STORED
 
 PATIENCE = 120           # seconds for Chromium
-USABLE = {"writing": 1.5, "loading": 10, "a jump": 2}  # seconds that 10,000 frames may take
-TRIES = 3
+USABLE = {"writing": 1.5, "loading": 10, "a jump": 2}  # seconds that 10,000 frames may take, on a
+TRIES = 3                                              # machine that does nothing else
 POLICY = re.compile(r'<meta http-equiv="Content-Security-Policy"[^>]*>')
 SIGNS = {"opened": "●", "genuine": "▲", "altered": "◆", "forged": "✕", "nokey": "□", "refused": "○"}
 TOLD = ("opened", "genuine", "altered", "forged")  # what a colour-blind reader must tell apart
@@ -112,7 +113,7 @@ const look = async () => {
     const x = box.left + box.width / 2, y = box.top + box.height / 2;
     const hit = tried ? document.elementFromPoint(x, y)?.closest("a")?.id ?? "" : null;
     return {number: +link.id.slice(1), href: link.getAttribute("href"), hit,
-            name: link.parentNode.getAttribute("class"), x: x - home.left, y: y - home.top,
+            name: link.parentNode.classList[0], x: x - home.left, y: y - home.top,
             size: Math.min(box.width, box.height), title: path.textContent,
             fill: look.fill, stroke: look.stroke,
             shape: path.getAttribute("d").replace(/^M[-\d.]+ [-\d.]+/, "")};
@@ -142,17 +143,17 @@ const look = async () => {
     full: place >= 300 || [...row.cells].every(cell => cell.scrollWidth <= cell.clientWidth + 1),
     back: row.cells[0].querySelector("a")?.getAttribute("href") ?? null}));
 
-  const jumps = [], classes = new Set();
-  for (const link of all(document, "figure.panel a").reverse()) {
-    const name = link.parentNode.getAttribute("class");
-    if (classes.has(name)) continue;
-    classes.add(name);
-    const began = performance.now();
+  const jumps = [], links = all(document, "figure.panel a");
+  const nameOf = link => link.parentNode.classList[0];
+  const last = new Map(links.map(link => [nameOf(link), link]));
+  const between = [0, 0.3, 0.5, 0.8].map(part => links[Math.floor(part * links.length)]);
+  for (const link of new Set([...last.values(), ...between].filter(link => link))) {
+    const name = nameOf(link), began = performance.now();
     link.dispatchEvent(new MouseEvent("click", {bubbles: true, cancelable: true}));
     await shown();
     const row = document.querySelector("tr:target"), box = row?.getBoundingClientRect();
     const took = performance.now() - began;
-    if (!row) { jumps.push({name, row: ""}); continue; }
+    if (!row) { jumps.push({name, href: link.getAttribute("href"), row: ""}); continue; }
     const seen = document.elementFromPoint(box.left + 60, box.top + box.height / 2);
     const colour = getComputedStyle(row).backgroundColor;
     const plain = row.parentNode.querySelector("tr.opened:not(:target), tr:not(:target)");
@@ -166,6 +167,13 @@ const look = async () => {
                 backInView: mark ? inView(mark.getBoundingClientRect()) : false});
   }
 
+  let real = height;  // where all is laid out, as far as that is quick
+  if (rows.length < 2500) {
+    const style = document.createElement("style");
+    style.textContent = "* { content-visibility: visible !important }";
+    document.head.append(style);
+    real = page.scrollHeight;
+  }
   return {
     language: page.lang, charset: document.characterSet, title: document.title,
     heading: text("h1"), children: document.querySelector("h1").children.length,
@@ -175,7 +183,7 @@ const look = async () => {
       item => [item.className, item.querySelector("b").textContent,
                item.querySelector("path")?.getBoundingClientRect().width ?? 0]),
     heard: all(document, ".heard li").map(item => item.textContent),
-    wide: page.scrollWidth, room: page.clientWidth, height, outside, panels, rows, jumps,
+    wide: page.scrollWidth, room: page.clientWidth, height, real, outside, panels, rows, jumps,
     loading};
 };
 document.addEventListener("DOMContentLoaded", () =>
@@ -278,6 +286,8 @@ def judge_page(seen, name, whose, frames):
           f"the name is not as given: {seen['title']!r}, {seen['heading']!r}")
     check(whose == seen["whose"], f"whose verdicts these are: {seen['whose']!r}")
     check(seen["wide"] <= seen["room"], f"the page scrolls sideways: {seen['wide']} pixels")
+    check(near(seen["height"], seen["real"], seen["real"] / 10),
+          f"{seen['height']} pixels high until it is laid out, and then {seen['real']}")
     check(not seen["outside"], f"parts from outside: {seen['outside'][:3]}")
     counts = Counter(map(class_of, frames))
     listed = {name: (int(count), wide) for name, count, wide in seen["counts"]}
@@ -542,12 +552,12 @@ def written(folder, title, frames, name="made-up.pcapng", whose="These verdicts 
     """Writes the page of frames; its path, its name, whose verdicts it says, and the seconds that
     it took."""
     path, counts = folder / f"{title.replace(' ', '-')}.html", Counter(map(class_of, frames))
-    began = time.monotonic()
+    began = time.process_time()
     report = Report(str(path), name, whose)
     for heard in frames:
         report.frame(heard)
     report.write(counts, SimpleNamespace(pans={}))
-    return path, name, whose, time.monotonic() - began
+    return path, name, whose, time.process_time() - began
 
 
 def many_frames():
@@ -599,6 +609,16 @@ def unordered_frames():
         frames.add(step / 2 - 400 * (step % 3 == 2), 10 + step)
         frames.add(step / 2, (step % 6) * 3, sender=DISPLAY)
     frames.add(7, 15, GENUINE)
+    return frames
+
+
+def replayed_frames():
+    """A storm of replays, of which each line has several rows; and long texts inside."""
+    frames = Frames()
+    for step in range(900):
+        frames.add(step / 20, step, inside="00" * (step % 9 * 8))
+    for step in range(900):
+        frames.add(50 + step / 20, step, GENUINE if step % 9 else ALTERED)
     return frames
 
 
@@ -677,10 +697,11 @@ def first_capture(chromium, folder, bench):
 
 def marks_and_lines(seen):
     """The marks and lines of a page, in words."""
-    count = sum(len(panel["marks"]) for panel in seen["panels"])
-    return (f"{count} mark{'s' * (count != 1)} in {len(seen['panels'])} "
-            f"panel{'s' * (len(seen['panels']) != 1)}, each linked to its line; "
-            f"{len(seen['rows'])} lines")
+    counts = (sum(len(panel["marks"]) for panel in seen["panels"]), len(seen["panels"]),
+              len(seen["rows"]))
+    marks, panels, lines = (f"{count} {word}{'s' * (count != 1)}"
+                            for count, word in zip(counts, ("mark", "panel", "line")))
+    return f"{marks} in {panels}, each linked to its line; {lines}"
 
 
 def made_up(chromium, folder, title, frames, **others):
@@ -692,13 +713,14 @@ def made_up(chromium, folder, title, frames, **others):
 
 
 def ten_thousand(chromium, folder):
-    """The page of 10,000 frames, timed; a machine that was busy elsewhere is given further tries."""
+    """The page of 10,000 frames, timed; a machine that is busy is given more time and tries."""
     for tries_left in reversed(range(TRIES)):
         seen, took, path = made_up(chromium, folder, "10,000 frames", many_frames())
         took = {"writing": took, "loading": seen["loading"] / 1000,
                 "a jump": max(jump["took"] for jump in seen["jumps"]) / 1000}
-        slow = [f"{what} takes {took[what]:.1f} s, more than {most}"
-                for what, most in USABLE.items() if took[what] > most]
+        busy = max(1, os.getloadavg()[0] / os.cpu_count())
+        slow = [f"{what} takes {took[what]:.1f} s, more than {most * busy:.1f}"
+                for what, most in USABLE.items() if took[what] > most * busy]
         if not slow:
             break
         check(tries_left, "; ".join(slow))
@@ -734,6 +756,7 @@ def plain(chromium, folder):
     """Pages of which nothing more is asked than of every page."""
     for title, frames, others in (
             ("one frame", one_frame(), {}),
+            ("a storm of replays", replayed_frames(), {}),
             ("times that go back", unordered_frames(), {}),
             ("500 senders", senders(500), {}),
             ("odd names", odd_names(), {"name": '<b>&".pcapng', "whose": "<i>Mine & yours</i>"})):
