@@ -135,7 +135,7 @@ def pcap(reader):
                          for time, (_, octets, *_) in zip(times[nanoseconds], frames)]
                 reader.compare(f"pcap {order} {nanoseconds} {link}",
                                air.pcap(frames, link, order, nanoseconds), asked)
-        beyond = struct.pack(order + "IIII", 1, 3_000_000, 0, 0)  # microseconds beyond a second
+        beyond = struct.pack(order + "IIII", 1, 3_000_000, 0, 0)  # to Wireshark it overflows
         reader.compare("microseconds", air.pcap([], 195, order) + beyond, [stored(4 * 10**9, b"")])
     return "24 files as written, in both orders and units of time"
 
@@ -221,7 +221,8 @@ def pcapng_times(reader):
 
 def parts(order, other):
     """A pcapng file in parts, the frame that each has or None: sections in both orders, several
-    interfaces, every kind of packet block, and blocks that are none."""
+    interfaces, every kind of packet block, and blocks that are none. Wireshark goes no further than
+    to a frame whose interface is not described."""
     wrong = air.option(order, 1, b"odd") + air.option(order, 2, struct.pack(order + "I", 1 << 24))
     others = (air.option(order, 2, b"\xff\xff") + air.option(order, 5, b"\xff\xff\xff\xff")
               + air.option(order, 2, struct.pack(order + "I", 0xFE00_0005)))  # every other error
@@ -396,8 +397,18 @@ def gzip_damaged(reader):
 
 # ---- other files -------------------------------------------------------------------------------
 
-def other_files(reader):
-    """Pipes, fed octet by octet; folders and files that are no captures."""
+def feed(path, octets):
+    """Writes to a pipe octet by octet, as long as somebody reads."""
+    try:
+        with open(path, "wb", buffering=0) as pipe:
+            for octet in octets:
+                pipe.write(bytes([octet]))
+    except BrokenPipeError:
+        pass
+
+
+def pipes(reader):
+    """Captures in pipes, fed octet by octet; and a pipe that is only looked at and keeps all."""
     plain = air.pcap([(TIME, CHECKED)] * 3, 195, "<", True)
     os.mkfifo(reader.pipe)
     for octets in (plain, packed(plain)):
@@ -405,7 +416,17 @@ def other_files(reader):
         feeder.start()
         same("a pipe", reader.read_from(reader.pipe), ([stored(TIME, CHECKED)] * 3, None))
         feeder.join()
+    both_ends = os.open(reader.pipe, os.O_RDWR)
+    os.write(both_ends, plain)
     same("a pipe that is looked at", files.looks_like_one(reader.pipe), False)
+    same("what it keeps", os.read(both_ends, len(plain)), plain)
+    os.close(both_ends)
+    return "2 read, and 1 looked at"
+
+
+def other_files(reader):
+    """Files that are no captures, and folders."""
+    plain = air.pcap([(TIME, CHECKED)] * 3, 195, "<", True)
     for octets, words in ((b"", "FILE is empty"), (packed(b""), "FILE is empty"),
                           (b"# a script\n", NO_CAPTURE), (packed(packed(plain)), NO_CAPTURE),
                           (b"\x1f\x8b", f"FILE: {MIDDLE}"), (b"\x1f\x8bno", f"FILE: {DAMAGED}")):
@@ -420,14 +441,7 @@ def other_files(reader):
         except OSError:
             continue
         raise Differs(f"{path} was opened")
-    return "2 pipes read, 6 files that are none, and no folder"
-
-
-def feed(path, octets):
-    """Writes to a pipe octet by octet."""
-    with open(path, "wb", buffering=0) as pipe:
-        for octet in octets:
-            pipe.write(bytes([octet]))
+    return "6 that are no captures, and no folder"
 
 
 def memory(reader):
@@ -448,8 +462,9 @@ def memory(reader):
 
 # ---- link types --------------------------------------------------------------------------------
 
-# Ethernet, and the frame or the words that should come of it. Wireshark takes the zeros of a filled
-# frame for its end, kinds of ZEP that are not known for data, and ZEP behind other headers of IPv6.
+# Ethernet, and the frame or the words that should come of it. Wireshark differs: it takes the zeros
+# of a filled frame for its end, and IPv4 of length 0 for whole; kinds of ZEP that are not known for
+# data, a length that isn't the datagram's for no ZEP, and in mode 0 the chip's verdict alone.
 FILLED = air.ethernet(0x809A, CHECKED).ljust(60, b"\0")
 TAGGED = air.ethernet(0x809A, CHECKED, [0x8100]).ljust(64, b"\0")
 CHIP, CHIP_WRONG = FRAME + b"\x20\xe5", FRAME + b"\x20\x65"
@@ -671,7 +686,8 @@ PANS = {"": None, "destination": TO_PAN, "source": BY_PAN, "both": BY_PAN}  # th
 
 # Information elements and what is behind them, or the words that they are passed over with. The
 # first octets of each are least first: 803f ends the header's and 003f says that those of the
-# payload follow, which 00f8 ends. Wireshark takes a single octet behind 003f for a payload.
+# payload follow, which 00f8 ends. Wireshark takes up to two octets behind 003f, and a single one
+# behind an element, for the payload; the standard has the payload's behind 00f8 alone.
 OUT_OF_PLACE, CUT = "MAC frame with an information element out of place", "cut MAC header"
 HEADER, INSIDE = "02 18 aa bb", "03 b0 61 62 63"
 ELEMENTS = (
@@ -755,8 +771,8 @@ def read(octets):
 
 def headers():
     """Every header of a data frame: its octets, and the PAN, source and destination it tells of, or
-    words. Bits that mean nothing in the older versions are ignored: 7, 8, which would leave the
-    number out in the newest, and 9, which would announce elements."""
+    words. Bits that the older versions reserve are ignored, as they ask: 7, 9, and also 8, which
+    leaves the number out in the newest version and to Wireshark in all."""
     for version in range(3):
         for modes, row in (OLDER if version < 2 else NEWEST).items():
             for compressed, pans in enumerate(row):
@@ -872,7 +888,7 @@ GROUPS = {
     "pcap": pcap, "pcap, broken off": pcap_broken_off,
     "pcapng": pcapng, "pcapng, times": pcapng_times, "pcapng, damaged": pcapng_damaged,
     "gzip": gzip_whole, "gzip, broken off": gzip_broken_off, "gzip, damaged": gzip_damaged,
-    "other files": other_files, "memory": memory,
+    "pipes": pipes, "other files": other_files, "memory": memory,
     "link types": link_types, "checksums": checksums,
     "Ethernet": partial(around, "Ethernet", 1, ETHERNET),
     "ZEP": partial(around, "ZEP", 1, ZEP),
