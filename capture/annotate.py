@@ -2,12 +2,13 @@
 
 import struct
 
-from .files import ENHANCED_PACKET, INTERFACE, RESOLUTION, SIMPLE_PACKET
+from .files import ENHANCED_PACKET, INTERFACE, RESOLUTION, SECTION, SIMPLE_PACKET
 from .links import WITH_CHECKSUM
 
 COMMENT, END = 1, 0
 SECTION_TYPE, ORDER_MAGIC = 0x0A0D0D0A, 0x1A2B3C4D
 NANOSECONDS = 9
+NO_LENGTH = b"\xff" * 8  # in the place of a section's length, in either byte order
 COMMENT_MOST = 0xFFFF - 3
 
 
@@ -54,7 +55,14 @@ class Annotated:
 
     def __init__(self, path, capture):
         self.file, self.started = open(path, "wb"), capture.pcapng
-        capture.passed_on = self.file.write
+        capture.passed_on = self.pass_on
+
+    def pass_on(self, octets):
+        """A block that is no frame, as it stands; but a section no longer says how long it is,
+        since comments make it longer."""
+        if octets.startswith(SECTION):
+            octets = octets[:16] + NO_LENGTH + octets[24:]
+        self.file.write(octets)
 
     def write(self, packet, comment):
         """A frame with its comment."""

@@ -113,10 +113,10 @@ def told(function, given, octets):
         raise Differs(f"{fault!r} leaves the reader at {octets.hex()}") from fault
 
 
-def inside(link, octets, length=None, spoilt=False):
+def inside(link, octets, length=None, spoilt=False, by_chip=False):
     """The frame in a stored one, or the words that it is passed over with."""
     packet = files.Packet(1, 0, link, octets, len(octets) if length is None else length, spoilt)
-    return told(links.frame_of, packet, octets)
+    return told(partial(links.frame_of, by_chip=by_chip), packet, octets)
 
 
 # ---- pcap --------------------------------------------------------------------------------------
@@ -622,7 +622,12 @@ def link_types(_reader):
         same(f"link type {link}, cut", inside(link, octets, 200),
              f"cut: {len(octets)} of 200 octets")
         same(f"link type {link}, found wrong", inside(link, octets, None, True), WRONG)
-    return "12 frames, and the same cut or found wrong by the sniffer"
+    for link, octets, asked in (
+            (195, CHIP, FRAME), (195, CHIP_WRONG, WRONG), (195, CHECKED, FRAME),
+            (195, SPOILT, WRONG), (195, b"\xe5", SHORT_OF_CHECKSUM), (230, CHIP, CHIP),
+            (283, air.tap(CHIP, TYPES[1]), WRONG), (1, air.ethernet(0x809A, CHIP), WRONG)):
+        same(f"link type {link}, by a chip", inside(link, octets, by_chip=True), asked)
+    return "12 frames, and the same cut or found wrong by the sniffer; 8 by a chip's verdict"
 
 
 def checksums(_reader):
