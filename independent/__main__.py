@@ -5,8 +5,8 @@ python3 -m independent PROGRAM                writes crates/PROGRAM/stdin and cr
 python3 -m independent PROGRAM --into DIR     writes stdin and stdout there
 python3 -m independent PROGRAM --check        exits 1 if a stored file differs from what is made
 python3 -m independent PROGRAM --answer       answers the script on standard input, line by line
-python3 -m independent lesson                 writes examples/first-lesson.answers
-python3 -m independent lesson --check         exits 1 if that differs from what is made
+python3 -m independent lesson                 writes the answers of the lessons in examples/
+python3 -m independent lesson --check         exits 1 if one differs from what is made
 
 PROGRAM is vectors, trials, bench or margins. This is for the repository's folder; from any other,
 python3 PATH/independent and the same words.

@@ -154,7 +154,8 @@ def two_boards(rng, network_key, link_key):
         tables.switch(board, number)
         tables.add_link(board, partner, link_key)
         boards.append(board)
-    boards[0].outgoing = rng.randrange(2**32 - 2)
+    boards[0].outgoing = boards[0].mark = rng.randrange(2**32 - 2)
+    tables.move_mark(boards[0], tables.next_mark(boards[0]))
     return boards
 
 

@@ -240,6 +240,7 @@ def add_tops(bench):
 def add_sealing(bench):
     """Sealed octets and sizes; the next outgoing counter."""
     fresh(bench)
+    bench.step()
     bench.network(0, 5, key(4))
     bench.add("switch", 5, expect="ok")
     bench.link(OWN, key(3))
@@ -299,6 +300,7 @@ def add_sealing_top(bench):
     bench.seal_aps(PARTNER, 0, COMMAND_HEADER, no(6))
     bench.seal_aps(PARTNER, 1, COMMAND_HEADER, no(14))
     bench.board(OWN, TOP - 1)
+    bench.step(asked=False)
     bench.link(PARTNER, key(1))
     bench.seal_aps(PARTNER, 3, COMMAND_HEADER, ok(aps_frame(key(1), 3, OWN, TOP - 1)))
     bench.seal_aps(PARTNER, 3, COMMAND_HEADER, no(7))

@@ -1,7 +1,7 @@
 """The desk of the program `bench`: one board, its stored lists, and what is lent.
 
 The bench language, "Lines", "Stale or forged", its table and the lines that document 02 brings;
-DECISIONS, "The bench language", iii-row-numbers and v-lines.
+DECISIONS, "The bench language", iii-row-numbers, v-lines and vi-board-finds-mark.
 """
 
 from .. import lines
@@ -62,6 +62,8 @@ class Desk:
             (b"openaps", 2): ((ADDRESS, FRAME), self.open_aps),
             (b"seal", 1): ((FRAME,), self.seal),
             (b"sealaps", 3): ((ADDRESS, OCTET, FRAME), self.seal_aps),
+            (b"mark", 0): ((), lambda: [tables.next_mark(self.board)]),
+            (b"marked", 1): ((COUNTER,), lambda c: tables.move_mark(self.board, c)),
             (b"state", 0): ((), self.state),
             (b"heard", 1): ((SLOT,), self.heard),
             (b"links", 0): ((), self.links),
@@ -91,10 +93,9 @@ class Desk:
 
     # ---- the desk ----
 
-    def make(self, own, outgoing=0):
-        """A board with fresh lists; a refusal leaves what there was."""
-        self.board = tables.made_board(own)
-        self.board.outgoing = outgoing
+    def make(self, own, found=0):
+        """A board that finds that mark, with fresh lists; a refusal leaves what there was."""
+        self.board = tables.made_board(own, found)
         self.addresses = [0] * STORED_ROWS
         self.floors = [0] * STORED_ROWS
 
@@ -105,9 +106,10 @@ class Desk:
         self.lent = lent
 
     def state(self):
-        """Both counters and the active slot."""
+        """Both counters, the active slot and the mark."""
         board = self.board
-        return board.outgoing, board.aps, "-" if board.active is None else board.active
+        active = "-" if board.active is None else board.active
+        return board.outgoing, board.aps, active, board.mark
 
     def heard(self, slot):
         """The used rows of a slot of the lent lists, which alone are judged."""

@@ -54,8 +54,10 @@ def add_judged(bench, turn, frame):
 
 
 def add_not_judged(bench, turn):
-    """What doesn't judge the lists; each turn spends two outgoing counters and an APS counter."""
+    """What doesn't judge the lists; each turn spends two outgoing counters and an APS counter, and
+    moves the mark, needed or not."""
     switch(bench, 1)
+    bench.step()
     bench.link(PARTNER, key(3))
     bench.seal(NETWORK_HEADER, ok(network_frame(key(1), 1, OWN, 2 * turn)))
     bench.seal_aps(PARTNER, 0, COMMAND_HEADER, ok(aps_frame(key(3), 0, OWN, 2 * turn + 1)))

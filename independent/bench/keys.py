@@ -57,6 +57,7 @@ def add_switch(bench):
     """13 for what is not there; sealing uses the active slot."""
     bench.group("switch: nothing present, number 0 and others; to seal 6")
     bench.board()
+    bench.step()
     for number in (0, 1, 255):
         switch(bench, number, no(13))
     bench.seal(NETWORK_HEADER, no(6))
@@ -239,6 +240,7 @@ def add_lists(bench):
     bench.group("the others don't judge them, but for heard (DECISIONS, iii-row-numbers)")
     switch(bench, 1)
     bench.link(STRANGER, key(3))
+    bench.step()
     bench.seal(NETWORK_HEADER, ok(network_frame(key(1), 1, OWN, 0)))
     bench.seal_aps(STRANGER, 0, COMMAND_HEADER, ok(aps_frame(key(3), 0, OWN, 1)))
     bench.open_aps(0, aps_frame(key(3), 0, STRANGER, 1), opened(STRANGER, 0, COMMAND_HEADER))
@@ -303,6 +305,7 @@ def add_unlinks(bench, partners, floors):
     bench.link(partners[3], key(3))
     bench.open_aps(0, aps_frame(key(3), 0, partners[3], 40), opened(partners[3], 0, COMMAND_HEADER))
     bench.group("DECISIONS, own-address: the own address as partner and as sender")
+    bench.step(asked=False)
     bench.add("unlink", address(partners[0]), expect="ok")
     bench.link(OWN, key(9))
     frame = aps_frame(key(9), 2, OWN, 0, b"\x05")

@@ -47,7 +47,7 @@ FORMS = (("board", "A"), ("board", "AC"), ("lend", "SSS"), ("network", "BBK"), (
          ("link", "AK"), ("unlink", "A"), ("forget", "BA"), ("open", "F"), ("openaps", "AF"),
          ("seal", "F"), ("sealaps", "ABF"), ("read", "TF"), ("tlv", "TBF"), ("route", "TF"),
          ("hash", "F"), ("keyedhash", "KF"), ("state", ""), ("heard", "B"), ("links", ""),
-         ("label", "X"), ("print", "F"))
+         ("label", "X"), ("print", "F"), ("mark", ""), ("marked", "C"))
 COMMANDS = (("transport1", "PBAA"), ("transport4", "PAAP"), ("transport2", "PABP"),
             ("transport3", "PABP"), ("update", "ASBP"), ("remove", "A"), ("request2", "A"),
             ("request4", ""), ("switchkey", "B"), ("tunnel", "AP"), ("verify", "BAP"),
@@ -116,15 +116,17 @@ def add_labels_without_board(bench):
 
 
 def add_example(bench):
-    """The example of the bench language."""
+    """The example of the bench language, with the mark that it needs by document 02 (vi)."""
     bench.group("the example of the bench language")
     bench.raw("board\t0000000000000002", "ok")
     bench.raw("network\t0\t0\tabcdef01234567890000000000000000", "ok")
     bench.raw("switch\t0", "ok")
+    bench.raw("mark", "ok\t1024")
+    bench.raw("marked\t1024", "ok")
     plain = bytes.fromhex("0800fcff00001e01")
     bench.raw("seal\t0800fcff00001e01", ok(network_frame(
         bytes.fromhex("abcdef01234567890000000000000000"), 0, 2, 0, header=plain)))
-    bench.raw("state", "ok\t1\t0\t0")
+    bench.raw("state", "ok\t1\t0\t0\t1024")
 
 
 def add_boards(bench):
@@ -233,7 +235,9 @@ def add_words(bench):
     for line in ("boards\t" + A, "boar\t" + A, "BOARD\t" + A, "Board\t" + A, "hashes\t00",
                  "has\t00", "routes\tnone\t" + TUNNEL, "rout\tnone\t" + TUNNEL,
                  "Route\tnone\t" + TUNNEL, "route\tack\t" + TUNNEL, "route\tnone " + TUNNEL,
-                 "states", "stat", "State", "link", "open aps\t" + A + "\t" + F, "writeack",
+                 "states", "stat", "State", "marks", "mar", "Mark", "MARKED\t1029",
+                 "markd\t1029", "mark ed\t1029", "marked 1029", "link",
+                 "open aps\t" + A + "\t" + F, "writeack",
                  "write", "write\tack", "write\tnoack", "write\tACK\trequest4",
                  "write\tacks\trequest4",
                  "write\t\trequest4", "write\trequest4", "write\tack\tRequest4",
@@ -315,6 +319,7 @@ def add_fine(bench):
 def add_bad_lines(bench):
     """All of this file that needs a board, on one that nothing may change."""
     bench.board(OWN, 5)
+    bench.step()
     bench.network(0, 3, key(1))
     bench.add("switch", 3, expect="ok")
     bench.link(OTHER, key(2))

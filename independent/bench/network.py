@@ -174,6 +174,7 @@ def add_security_controls(bench):
 def add_headers(bench):
     """Long addresses, routes and end device."""
     fresh(bench)
+    bench.step()
     counter = 0
     bench.group("network: every mix of source route, long addresses and end device, "
                 "in place and cut in the header")
@@ -303,6 +304,7 @@ def add_later_orders(bench, good):
 def add_sealing(bench):
     """Sealed octets, sizes, the counter, and the order of refusals."""
     fresh(bench)
+    bench.step()
     counter = 0
     bench.group("seal: payloads about the cipher's blocks, then other headers, each opened again")
     for header, length in ([(NETWORK_HEADER, n) for n in (0, 1, 3, 15, 16, 17, 31, 32, 33, 48, 90)]
@@ -344,6 +346,7 @@ def add_sealing_top(bench):
     bench.seal(NETWORK_HEADER[:7], no(3))
     bench.group("01: outgoing 4294967294 is sealed; then 7, and there it stays (RULES 8.2)")
     bench.board(OWN, TOP - 1)
+    bench.step()
     bench.network(0, 9, key(3))
     bench.network(1, 8, key(4))
     bench.link(SENDER, key(5))

@@ -90,6 +90,7 @@ def add_joining(bench):
     """A router joins the centre, and an end device joins through it."""
     bench.group("source document 001, 12.8: the trust centre's side of two joinings")
     bench.board(CENTRE)
+    bench.step()
     bench.network(0, 0, NETWORK_KEY)
     bench.add("switch", 0, expect="ok")
     router, end = Station(ROUTER), Station(END)
@@ -113,6 +114,7 @@ class Play:
         self.past = []  # lines that opened: word and fields, while their keys stay
         bench.hall(rows)
         bench.board(OWN, self.chance.below(2**32 - 10**6))
+        bench.step()
         self.stations = [Station(0x00124B0000001000 + 16 * i, self.chance.below(2**31))
                          for i in range(stations)]
         for station in self.stations[:8]:

@@ -92,6 +92,7 @@ def add_joining(bench, turn, code):
     another print, opens it."""
     bench.group(f"a joining by the label of a code of {len(code)}: the centre")
     bench.board(CENTRE, 100 * turn)
+    bench.step(asked=turn % 2 == 0)
     link_key = answered_key(bench, spelled(whole(code)))
     sure(link_key == key_of(code), "another link key", link_key.hex())
     bench.link(JOINER, link_key)

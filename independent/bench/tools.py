@@ -60,6 +60,7 @@ class Bench(lines.Script):
         super().__init__()
         self.desk = Desk()
         self.given = []  # pairs of line and answer
+        self.mark = 0    # the mark of the board that was made last, kept apart from the desk
 
     def raw(self, line, expect=None):
         """Adds a line; its answer, compared with the one expected."""
@@ -78,9 +79,18 @@ class Bench(lines.Script):
         return self.raw("\t".join(f.hex() if isinstance(f, bytes) else str(f) for f in fields),
                         expect)
 
-    def board(self, own=OWN, counter=None):
-        """A board that must be made."""
-        self.add("board", address(own), *([] if counter is None else [counter]), expect="ok")
+    def board(self, own=OWN, found=None):
+        """A board that must be made; its outgoing counter starts at the mark that it finds."""
+        self.add("board", address(own), *([] if found is None else [found]), expect="ok")
+        self.mark = found or 0
+
+    def step(self, asked=True):
+        """Moves the mark one step ahead, so that the board can seal: the next one is asked for, or
+        known without asking, and the board is told that the store now holds it."""
+        self.mark = min(self.mark + 1024, TOP)
+        if asked:
+            self.add("mark", expect=ok(self.mark))
+        self.add("marked", self.mark, expect="ok")
 
     def network(self, slot, number, octets, expect="ok"):
         """Installs a network key."""
@@ -115,8 +125,8 @@ class Bench(lines.Script):
         return self.add("sealaps", address(partner), identifier, frame, expect=expect)
 
     def state(self, outgoing, aps, active):
-        """Asks for the state, which is known."""
-        self.add("state", expect=ok(outgoing, aps, active))
+        """Asks for the state, which is known, with the mark behind the rest."""
+        self.add("state", expect=ok(outgoing, aps, active, self.mark))
 
     def heard(self, slot, *rows):
         """Asks for the senders of a slot, triples of row, sender and floor."""
@@ -135,10 +145,9 @@ class Bench(lines.Script):
 class Station:
     """A second board, which seals what the one on the desk is to open."""
 
-    def __init__(self, own, counter=0):
+    def __init__(self, own, found=0):
         self.own = own
-        self.board = tables.made_board(own)
-        self.board.outgoing = counter
+        self.board = tables.made_board(own, found)
         self.lists = [0] * LENT[1], [0] * LENT[2]
 
     def install(self, slot, number, octets):
@@ -152,12 +161,19 @@ class Station:
         tables.add_link(self.board, partner, octets)
         return self
 
+    def step_if_needed(self):
+        """Moves the mark where the next counter is not below it."""
+        if self.board.outgoing >= self.board.mark:
+            tables.move_mark(self.board, tables.next_mark(self.board))
+
     def seal(self, frame):
         """Seals a network frame."""
+        self.step_if_needed()
         return opening.seal_network(self.board, opening.ROOM, frame)
 
     def seal_aps(self, partner, identifier, frame):
         """Seals an APS frame."""
+        self.step_if_needed()
         return opening.seal_aps(self.board, opening.ROOM, partner, identifier, frame)
 
 

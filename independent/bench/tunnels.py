@@ -217,6 +217,7 @@ def add_sealed(bench):
     bench.group("DECISIONS, i-tunnel-counter: the inner seal spends one outgoing counter, the "
                 "tunnel one APS counter and no outgoing one")
     bench.board(OWN, 40)
+    bench.step(asked=False)
     bench.link(JOINER, key(5))
     joiner = Station(JOINER).link(OWN, key(5))
     forms = [(control, identifier, size) for size in (1, 35, 78) for control in (0x01, 0x09)

@@ -1,13 +1,14 @@
 """The desk of the program `margins`: what a call leaves in what it was lent, refusals too.
 
 The language of `margins`. Every line is answered on the same board, made anew for it, with the same
-lists (for `hall` of the lengths that it tells) and an output of octets EE.
+lists (for `hall` of the lengths that it tells) and an output of octets EE; `sealat` and `sealapsat`
+tell its counter and its mark.
 """
 
 from dataclasses import dataclass, field
 
 from .. import lines
-from ..bench.desk import ADDRESS, OCTET, protection, protection_field
+from ..bench.desk import ADDRESS, COUNTER, OCTET, protection, protection_field
 from ..model import commands, labels, mmo, opening, tables
 
 FRAME = lines.hex_field(0, 512)
@@ -22,7 +23,7 @@ LINK_KEYS = bytes(range(0x20, 0x30)), bytes(range(0x30, 0x40))
 def made_board():
     """The board of every line."""
     board = tables.made_board(2)
-    board.outgoing, board.aps, board.active = 7, 255, 0
+    board.outgoing, board.mark, board.aps, board.active = 7, 8, 255, 0
     board.slots = [tables.Slot(True, 5, bytes(range(0x00, 0x10))),
                    tables.Slot(True, 6, bytes(range(0x10, 0x20)))]
     board.links[0] = tables.Link(True, 0xA1, LINK_KEYS[0], 100)
@@ -135,8 +136,10 @@ def shown(*fields):
 
 def on_board(request, left):
     """The action that answers a request and shows the output and what else it left."""
-    def act(size, *arguments, rows=ROWS):
+    def act(size, *arguments, rows=ROWS, at=None):
         lent = Lent(b"\xee" * size, *made_lists(*rows))
+        if at is not None:
+            lent.board.outgoing, lent.board.mark = at
         try:
             verdict = lines.ok(*request(lent, *arguments))
         except lines.Refused as refusal:
@@ -181,13 +184,19 @@ def part(name):
 
 
 OPEN = on_board(open_network, changed_rows)
+SEAL = on_board(seal_network, outgoing)
+SEAL_APS = on_board(seal_aps, outgoing)
 WORDS = {
     b"open": ((SIZE, FRAME), OPEN),
     b"hall": ((SIZE, LENGTH, LENGTH, FRAME),
               lambda size, a, f, frame: OPEN(size, frame, rows=(a, f))),
     b"openaps": ((SIZE, ADDRESS, FRAME), on_board(open_aps, link_floors)),
-    b"seal": ((SIZE, FRAME), on_board(seal_network, outgoing)),
-    b"sealaps": ((SIZE, ADDRESS, OCTET, FRAME), on_board(seal_aps, outgoing)),
+    b"seal": ((SIZE, FRAME), SEAL),
+    b"sealaps": ((SIZE, ADDRESS, OCTET, FRAME), SEAL_APS),
+    b"sealat": ((SIZE, COUNTER, COUNTER, FRAME),
+                lambda size, counter, mark, frame: SEAL(size, frame, at=(counter, mark))),
+    b"sealapsat": ((SIZE, COUNTER, COUNTER, ADDRESS, OCTET, FRAME),
+                   lambda size, counter, mark, *rest: SEAL_APS(size, *rest, at=(counter, mark))),
     b"remove": ((SIZE, ADDRESS), on_board(writer("remove", True), aps_counter)),
     b"tunnel": ((SIZE, ADDRESS, FRAME), on_board(writer("tunnel", False), aps_counter)),
     b"down": ((SIZE, FRAME), on_board(writer("down", True), aps_counter)),

@@ -72,7 +72,15 @@ def add_bad(script):
                  ("keyedhash", "4g"), ("key", 256, frame), ("digest", "None", frame),
                  ("inner", "01", frame), ("tlvs", "none", "413"), ("value", "none", "-1", frame),
                  ("header", "none", bytes(513)), ("auxiliary", "00", frame),
-                 ("payload", "none", "413g"), ("tag", 256, frame)):
+                 ("payload", "none", "413g"), ("tag", 256, frame), ("sealat", 257, 7, 8, frame),
+                 ("sealat", 116, 4294967296, 8, frame), ("sealat", 116, 7, 4294967296, frame),
+                 ("sealat", 116, "07", 8, frame), ("sealat", 116, 7, "", frame),
+                 ("sealat", 116, 7, 8, bytes(513)), ("sealapsat", 116, "-7", 8, device, 0, frame),
+                 ("sealapsat", 116, 7, "08", device, 0, frame),
+                 ("sealapsat", 116, 7, 18446744073709551624, device, 0, frame),
+                 ("sealapsat", 116, 7, 8, device[1:], 0, frame),
+                 ("sealapsat", 116, 7, 8, device, 256, frame),
+                 ("sealapsat", 116, 7, 8, device, 0, "4g")):
         script.add(*line, expect="bad")
     script.group("bad: a field less or more, other words, blanks")
     for line in ("open\t116", "hall\t116\t64\t413e", "hall\t116\t64\t64\t413e\t",
@@ -80,7 +88,10 @@ def add_bad(script):
                  "remove\t116\t00000000000000a1\t", "hash", "value\tnone\t413e",
                  "header\tnone", "auxiliary\t413e", "payload\tnone\t413e\t", "tag\tnone\t0\t413e",
                  "route\tnone\t413e", "Tag\tnone\t413e",
-                 "Open\t116\t413e", "up\t116\t", "hash\t00 ", "board"):
+                 "Open\t116\t413e", "up\t116\t", "hash\t00 ", "board",
+                 "sealat\t116\t7\t413e", "sealat\t116\t7\t8\t413e\t", "Sealat\t116\t7\t8\t413e",
+                 "seal at\t116\t7\t8\t413e", "sealapsat\t116\t7\t8\t00000000000000a1\t413e",
+                 "sealapsat\t116\t00000000000000a1\t0\t413e", "mark\t116", "marked\t116\t8"):
         script.raw(line, "bad")
 
 

@@ -5,19 +5,23 @@ name of an entry in docs/DECISIONS.md follows.
 """
 
 from ..bench.labels import CODES
+from ..bench.tools import TOP
 from ..lines import lines_of, ok, sure
 from .commands import COMMANDS, FRONT, INNER_PARTS, PARTS, add_parts, add_values, add_writing
 from .desk import Desk
 from .halls import LENGTHS, REFUSED_LISTS, add_halls
 from .hashes import add_hashes
 from .labels import add_labels
+from .marks import add_marks
 from .opening import (add_open, add_open_aps, add_open_aps_forged, add_open_aps_refusals,
                       add_open_forged, add_open_refusals)
 from .others import add_bad, add_chance, add_fine, add_hall_chance
 from .sealing import add_seal, add_seal_aps
-from .tools import LEAST, LEAST_LINES, MOST_LINES, REFUSALS, ROOMS, STAYS, Margins
+from .tools import (LEAST, LEAST_LINES, MARK, MOST_LINES, OUTGOING, REFUSALS, ROOMS, Margins,
+                    stays)
 
 OPENING = ("open", "hall", "openaps")  # three fields before the output
+SEALING = {"sealat": "seal", "sealapsat": "sealaps"}  # with counter and mark told, and without
 
 
 def make_script():
@@ -26,7 +30,7 @@ def make_script():
     for add in (add_open, add_open_refusals, add_open_forged, add_halls, add_open_aps,
                 add_open_aps_refusals, add_open_aps_forged, add_seal, add_seal_aps, add_writing,
                 add_parts, add_values, add_hashes, add_chance, add_hall_chance, add_bad, add_labels,
-                add_fine):
+                add_marks, add_fine):
         add(script)
     answered = {n for n, line in enumerate(script.lines, 1) if line and not line.startswith(b"#")}
     sure(set(script.expected) == answered, "lines without an expected answer",
@@ -65,7 +69,7 @@ def check_outputs(given):
         room = int(fields[0])
         output = answer[{"refused": 2, "ok": 3 if word in OPENING else 1}[kind]]
         if kind == "refused":
-            sure(answer[2:] == ["ee" * room, *map(str, STAYS[word])],
+            sure(answer[2:] == ["ee" * room, *map(str, stays(word, fields[1:]))],
                  "a refusal changes something", word, fields)
         else:
             behind = output[2 * int(answer[0]):]
@@ -99,6 +103,31 @@ def check_halls(given):
     for rows in LENGTHS:
         found = met.get((rows, rows), set())
         sure(1 not in found and {0, 8, 9, 10} <= found, "lists that are allowed", rows, found)
+
+
+def check_marks(given):
+    """With counter and mark told: a frame is sealed just where the counter is below the mark, which
+    no counter at the top is, and the counter is raised by 1. With those of the board the answer is
+    that of the same line without them."""
+    plain = {tuple(fields): answer for fields, answer in given if fields[0] in SEALING.values()}
+    alike = set()
+    for (word, *fields), answer in given:
+        if word not in SEALING or answer[0] == "bad":
+            continue
+        room, counter, mark, *rest = fields
+        counter, mark = int(counter), int(mark)
+        if answer[0] == "ok":
+            sure(counter < mark and answer[-1] == str(counter + 1), "a counter is spent", fields)
+        elif answer[1] == "17":
+            sure(mark <= counter < TOP, "17 below the mark or at the top", fields)
+        elif answer[1] == "7":
+            sure(counter == TOP, "7 below the top", fields)
+        other = plain.get((SEALING[word], room, *rest))
+        if (counter, mark) == (OUTGOING, MARK) and other is not None:
+            sure(answer == other, "the board's own counter and mark answer otherwise", fields)
+            alike.add((word, room))
+    missed = {(word, str(room)) for word in SEALING for room in ROOMS} - alike
+    sure(not missed, "no line with the board's own counter and mark", missed)
 
 
 def check_parts(given):
@@ -175,6 +204,7 @@ def check(files):
     check_outcomes(given)
     check_outputs(given)
     check_halls(given)
+    check_marks(given)
     check_parts(given)
     check_prints(given)
     check_labels(given)

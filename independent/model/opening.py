@@ -2,8 +2,8 @@
 
 Document 01, "The auxiliary header and the nonce" and "Opening and sealing"; the bench language,
 "Stale or forged"; DECISIONS, room-for-aps, lists-before-frame, bits-6-and-7, unsecured-header,
-callers-sender, five-octet-form, own-address, heard-top, seal-for-nobody and look-one-key. The
-output is told by its length alone.
+callers-sender, five-octet-form, own-address, heard-top, seal-for-nobody and look-one-key; document
+02 (vi) for refusal 17. The output is told by its length alone.
 """
 
 from . import ccm, headers, mmo, tables
@@ -12,7 +12,7 @@ from ..lines import refuse_if
 ROOM = 116
 OPEN_MOST = {headers.NETWORK: 116, headers.APS: 108}
 SEAL_MOST = {headers.NETWORK: 98, headers.APS: 91}
-TOP = 2**32 - 1
+TOP = tables.TOP
 NETWORK_IDENTIFIER = 1
 HASHED_OVER = {2: b"\x00", 3: b"\x02"}  # identifiers whose key is a keyed hash of the link key
 
@@ -122,6 +122,12 @@ def sealed_frame(board, layer, key, header, auxiliary, frame):
     return front + ccm.seal(headers.TAG, key, nonce, worked_with, frame[header:])
 
 
+def judge_outgoing(board):
+    """7 and 17: the counter that a seal would spend."""
+    refuse_if(board.outgoing == TOP, 7)
+    refuse_if(board.outgoing >= board.mark, 17)
+
+
 def active_slot(board):
     """The slot that is active and present, or 6."""
     refuse_if(board.active is None or board.active >= tables.SLOTS, 6)
@@ -136,7 +142,7 @@ def seal_network(board, room, frame):
     refuse_if(len(frame) > SEAL_MOST[headers.NETWORK], 2)
     header = headers.read_network_plain(frame)
     slot = active_slot(board)
-    refuse_if(board.outgoing == TOP, 7)
+    judge_outgoing(board)
     auxiliary = headers.auxiliary_header(NETWORK_IDENTIFIER, board.outgoing, board.own,
                                          slot.number)
     return sealed_frame(board, headers.NETWORK, slot.key, header, auxiliary, frame)
@@ -150,7 +156,7 @@ def seal_aps(board, room, partner, identifier, frame):
     refuse_if(identifier not in (0, 2, 3), 14)
     entry = tables.entry_of(board, partner)
     refuse_if(entry is None, 6)
-    refuse_if(board.outgoing == TOP, 7)
+    judge_outgoing(board)
     key = link_key(board.links[entry].key, identifier)
     auxiliary = headers.auxiliary_header(identifier, board.outgoing, board.own, 0)
     return sealed_frame(board, headers.APS, key, header, auxiliary, frame)

@@ -1,8 +1,8 @@
-"""The board's state and the requests that change keys.
+"""The board's state, the requests that change keys, and the two that move the mark.
 
 Document 01, "The state and the lists" and "Requests that change keys"; document 02 (iii) for the
-lengths of the lists; DECISIONS, freed-row, install-14-first, forget-without-key, unlink-zero,
-iii-row-numbers and iii-other-length.
+lengths of the lists and (vi) for the mark; DECISIONS, freed-row, install-14-first,
+forget-without-key, unlink-zero, iii-row-numbers, iii-other-length and those of (vi).
 """
 
 from dataclasses import dataclass, field
@@ -13,6 +13,8 @@ LEAST_ROWS, MOST_ROWS = 2, 1024  # of a list
 SLOTS = 2
 LINKS = 8
 ALL_ONES = 2**64 - 1
+TOP = 2**32 - 1  # the counter that is neither sent nor accepted, and the last mark
+MARK_STEP = 1024
 NO_KEY = bytes(16)
 
 
@@ -38,6 +40,7 @@ class Board:
     """The state; the heard senders stand in lists of their own."""
     own: int
     outgoing: int = 0
+    mark: int = 0
     aps: int = 0
     slots: list = field(default_factory=lambda: [Slot() for _ in range(SLOTS)])
     active: int | None = None
@@ -49,10 +52,10 @@ def nobody(address):
     return address in (0, ALL_ONES)
 
 
-def made_board(own):
-    """A fresh board, or 14."""
+def made_board(own, found=0):
+    """A board that finds that mark in its store, otherwise fresh, or 14."""
     refuse_if(nobody(own), 14)
-    return Board(own)
+    return Board(own, outgoing=found, mark=found)
 
 
 def judge_lists(addresses, floors):
@@ -67,6 +70,19 @@ def lowest(places, fits):
         if fits(place):
             return place
     return None
+
+
+# ---- the mark ----------------------------------------------------------------------------------
+
+def next_mark(board):
+    """The first request of a step: the next mark. Nothing remembers that it was asked for."""
+    return min(board.mark + MARK_STEP, TOP)
+
+
+def move_mark(board, held):
+    """The second request: the store now holds that mark. Another than the next one is 14."""
+    refuse_if(held != next_mark(board), 14)
+    board.mark = held
 
 
 # ---- network keys ------------------------------------------------------------------------------

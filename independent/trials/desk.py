@@ -48,6 +48,9 @@ class Desk:
             b"setlink": ((ENTRY, FLAG, ADDRESS, KEY, COUNTER), self.on_board(set_link)),
             b"setactive": ((OCTET,), self.on_board(set_active)),
             b"setrow": ((ROW, ADDRESS, COUNTER), self.on_board(self.set_row)),
+            b"mark": ((), self.on_board(lambda board: [tables.next_mark(board)])),
+            b"marked": ((COUNTER,), self.on_board(tables.move_mark)),
+            b"setmark": ((COUNTER,), self.on_board(set_mark)),
             b"slots": ((), self.on_board(slots)),
             b"links": ((), self.on_board(links)),
             b"rows": ((), self.on_board(self.rows)),
@@ -113,6 +116,11 @@ def set_active(board, slot):
     board.active = None if slot == 255 else slot
 
 
+def set_mark(board, mark):
+    """The mark as it is told, past every rule."""
+    board.mark = mark
+
+
 def slots(board):
     """Both slots and the active mark."""
     for slot in board.slots:
@@ -127,8 +135,8 @@ def links(board):
 
 
 def counters(board):
-    """Own address and both counters."""
-    return lines.address(board.own), board.outgoing, board.aps
+    """Own address, both counters and the mark."""
+    return lines.address(board.own), board.outgoing, board.aps, board.mark
 
 
 def read(found):

@@ -53,7 +53,8 @@ def fresh(script, title):
 
 NEEDY = (("network", 0, 0, K), ("switch", 0), ("link", P1, K), ("unlink", P1), ("forget", 0, P1),
          ("setslot", 0, 1, 0, K), ("setlink", 0, 1, P1, K, 0), ("setrow", 0, P1, 1),
-         ("setactive", 0), ("slots",), ("links",), ("rows",), ("counters",))
+         ("setactive", 0), ("slots",), ("links",), ("rows",), ("counters",), ("mark",),
+         ("marked", 1024), ("marked", 0), ("setmark", 0))
 
 
 def add_no_board(script):
@@ -83,7 +84,7 @@ def add_no_board(script):
 def add_boards(script):
     """Fresh boards, and the refusals that leave the old one."""
     fresh(script, "a fresh board")
-    show(script, counters=ok(OWN, 0, 0), slots=slots(NO_SLOT, NO_SLOT, "-"), links=links({}),
+    show(script, counters=ok(OWN, 0, 0, 0), slots=slots(NO_SLOT, NO_SLOT, "-"), links=links({}),
          rows="ok")
     script.group("a refused or a bad board leaves the old one and its lists")
     set_rows(script, (0, P1, 1), (63, P2, 4294967295), (64, ONES, 2), (1025, ZERO, 3))
@@ -92,13 +93,13 @@ def add_boards(script):
     script.add("setactive", 1, expect="ok")
     for own, expect in ((ZERO, refused(14)), (ONES, refused(14)), ("1", "bad")):
         script.add("board", own, expect=expect)
-        show(script, counters=ok(OWN, 0, 0), slots=slots(NO_SLOT, (1, 255, K), 1),
+        show(script, counters=ok(OWN, 0, 0, 0), slots=slots(NO_SLOT, (1, 255, K), 1),
              links=links({7: (1, ONES, OTHER, 4294967295)}),
              rows=rows((0, P1, 1), (63, P2, 4294967295), (64, ONES, 2), (1025, ZERO, 3)))
     script.group("a new board is fresh in all 1026 rows, and the lend stays")
     script.add("lend", 10, 20, expect="ok")
     script.add("board", "fffffffffffffffe", expect="ok")
-    show(script, counters=ok("fffffffffffffffe", 0, 0), slots=slots(NO_SLOT, NO_SLOT, "-"),
+    show(script, counters=ok("fffffffffffffffe", 0, 0, 0), slots=slots(NO_SLOT, NO_SLOT, "-"),
          links=links({}), rows="ok")
     script.add("network", 0, 0, K, expect=refused(1))
     script.add("lend", 64, 64, expect="ok")
@@ -107,7 +108,7 @@ def add_boards(script):
     script.add("board", "fffffffffffffffe", expect="ok")
     show(script, links=links({}))
     script.add("board", "0000000000000001", expect="ok")
-    show(script, counters=ok("0000000000000001", 0, 0))
+    show(script, counters=ok("0000000000000001", 0, 0, 0))
 
 
 # ---- network keys --------------------------------------------------------------------------------
@@ -397,7 +398,7 @@ def add_unlinks(script):
     show(script, links=links({0: (1, ZERO, K, 1), 1: (1, P2, K, 0)}))
     script.add("unlink", ONES, expect=refused(13))
     script.group("the link keys know nothing of the network's tables")
-    show(script, slots=slots(NO_SLOT, NO_SLOT, "-"), rows="ok", counters=ok(OWN, 0, 0))
+    show(script, slots=slots(NO_SLOT, NO_SLOT, "-"), rows="ok", counters=ok(OWN, 0, 0, 0))
 
 
 # ---- senders -------------------------------------------------------------------------------------

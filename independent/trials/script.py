@@ -4,6 +4,7 @@ from ..lines import Script, ok
 from .frames import PLAIN, add_frames
 from .halls import add_halls
 from .keys import K, LAST, OWN, P1, add_keys, links, rows, show, slots
+from .marks import add_marks
 
 KEY = K.hex()
 # A good line of each word, and the kind of each of its fields.
@@ -15,7 +16,7 @@ LINES = (
     ("counters", ""), ("frame", "F", PLAIN), ("apsframe", "AF", P1, "0199"),
     ("plainframe", "F", PLAIN), ("plainaps", "F", "0199"), ("nonce", "ACB", P1, 5, 40),
     ("aux", "BCAB", 1, 5, P1, 7), ("auth", "BBF", 0, 1, PLAIN), ("clear", "PBF", 0, 8, PLAIN),
-    ("raise", "PBF", 0, 8, PLAIN),
+    ("raise", "PBF", 0, 8, PLAIN), ("mark", ""), ("marked", "C", 1024), ("setmark", "C", 7),
 )
 # What each kind does not hold.
 WRONG = {
@@ -58,7 +59,8 @@ def add_bad_words(script):
     script.group("bad: words")
     for line in ("boards\t" + OWN, "BOARD\t" + OWN, "boar\t" + OWN, " board\t" + OWN, "\tboard",
                  "board " + OWN, "heard\t0", "open\t" + PLAIN, "slots\r", "slots ", "slot", "\r",
-                 "\t", " ", " # no comment", "links\x00", "é", "room", "255", "-"):
+                 "\t", " ", " # no comment", "links\x00", "é", "room", "255", "-", "marks", "Mark",
+                 "marked 1024", "set mark\t7"):
         script.raw(line, "bad")
     script.group("bad: overlong, with a word and without; a long comment stays silent")
     script.raw("frame\t" + "0" * 5000, "bad")
@@ -78,7 +80,7 @@ def add_bad(script):
     add_bad_counts(script)
     add_bad_words(script)
     script.group("nothing changed")
-    show(script, counters=ok(OWN, 0, 0), slots=slots((0, 0, bytes(16)), (1, 9, K), 1),
+    show(script, counters=ok(OWN, 0, 0, 0), slots=slots((0, 0, bytes(16)), (1, 9, K), 1),
          links=links({0: (1, P1, LAST, 0)}), rows=rows((1025, P1, 5)))
     script.add("network", 1, 9, K, expect="ok")
 
@@ -89,7 +91,7 @@ def add_fine(script):
     for line in ("", "#", "#\tslots", "", "# \x00é\r"):
         script.raw(line)
     script.raw("board\tABCDEF0123456789", "ok")
-    script.add("counters", expect=ok("abcdef0123456789", 0, 0))
+    script.add("counters", expect=ok("abcdef0123456789", 0, 0, 0))
     script.raw("link\tABCDEF01234567aB\t" + "Ab" * 16, "ok")
     script.add("links", expect=links({0: (1, "abcdef01234567ab", b"\xab" * 16, 0)}))
     script.raw("frame\t0800FCFF00001E01", ok("plain", 8))
@@ -102,7 +104,7 @@ def add_fine(script):
     script.add("setlink", 7, 1, "f" * 16, b"\xff" * 16, 4294967295, expect="ok")
     script.add("rows", expect=rows((1025, "f" * 16, 4294967295)))
     script.group("the last line has no line feed")
-    script.add("counters", expect=ok("abcdef0123456789", 0, 0))
+    script.add("counters", expect=ok("abcdef0123456789", 0, 0, 0))
 
 
 def make_script():
@@ -111,6 +113,7 @@ def make_script():
     add_keys(script)
     add_halls(script)
     add_frames(script)
+    add_marks(script)
     add_bad(script)
     add_fine(script)
     return script

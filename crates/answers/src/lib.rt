@@ -20,6 +20,7 @@ pub enum Refusal {
     Argument,
     Label,
     Crc,
+    Mark,
 }
 
 // What protected a frame: nothing, or a key, named by its identifier.
@@ -73,5 +74,6 @@ pub fn number(r: Refusal) -> u8
         Refusal::Argument => 14,
         Refusal::Label => 15,
         Refusal::Crc => 16,
+        Refusal::Mark => 17,
     }
 }

@@ -3,7 +3,7 @@
 use mathlib.Core.Path.{_≡_, refl}
 use mathlib.Core.Bool.{true}
 use mathlib.Core.List.{List}
-use Prim.Native.Nat.{ℕ, _+_, _≤_}
+use Prim.Native.Nat.{ℕ, _+_, _<_, _≤_}
 use native.Mathlib.Omega.{arith}
 use lib.Dec.{eqb, ltb}
 use lib.ListN.{length}
@@ -78,7 +78,7 @@ module _ (z : Settings) (b : Board) (f : List ℕ) (given : ℕ) (o : List ℕ) 
 
 -- ---- sealing
 
--- a plain frame that passes every check: 2; the header's length; 14; 6, with the partner's entry, which is present; 7
+-- a plain frame that passes every check: 2; the header's length; 14; 6, with the partner's entry, which is present; 7; 17
 pub record Sealing (z : Settings) (b : Board) (f : List ℕ) (a k : ℕ) : Type 0 where
   pub short : length f ≤ longestApsPlain z
   pub header : ℕ
@@ -88,6 +88,7 @@ pub record Sealing (z : Settings) (b : Board) (f : List ℕ) (a k : ℕ) : Type 
   pub partner : linkOf (b .links) a ≡ At entry
   pub paired : pairs (linkAt (b .links) entry) a ≡ true
   pub below : b .outgoing ≡ top → ⊥
+  pub marked : b .outgoing < b .mark
 
 module _ {z : Settings} {b : Board} {f : List ℕ} {a k : ℕ} where
   -- the secured frame: under the key that the identifier names of that entry, with the board's counter and address
@@ -123,7 +124,7 @@ module _ (z : Settings) (b : Board) (f : List ℕ) (a k : ℕ) (o : List ℕ) wh
           → linkOf (b .links) a ≡ x → P (sealedFor z b f o h k x)
       for h e d y Absent l = down 6
       for h e d y (At i) l =
-          by-sending P b _ o down λ t.
+          by-sending P b _ o down λ t u.
           made
           (record {
             short = d;
@@ -134,6 +135,7 @@ module _ (z : Settings) (b : Board) (f : List ℕ) (a k : ℕ) (o : List ℕ) wh
             partner = l;
             paired = entry-pairs i l;
             below = t;
+            marked = u;
           })
 
       read : length f ≤ longestApsPlain z → (x : PlainReading) → readingPlain Aps f ≡ x → P (sealedRead z b f a k o x)

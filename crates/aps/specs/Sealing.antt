@@ -1,6 +1,6 @@
 -- Document 01, "Opening and sealing" (RULES 8.3): sealing an APS frame. "Sealing takes a plain frame: an APS frame [uses] the
 -- partner's entry and identifier 0, 2 or 3 named by the caller (else 14)." "Sealing always sends the sender, 13 octets." "Sealing: 1,
--- 2, 3, 4, 3, 14, 6, 7."
+-- 2, 3, 4, 3, 14, 6, 7", and document 02 (vi): 17, "judged after 7".
 -- Assumes nothing.
 use mathlib.Core.Bool.{Bool, not}
 use mathlib.Core.List.{List}
@@ -26,7 +26,7 @@ use Rattle.aps.specs.Keys.{keyFor}
 unfoldable pub named : ℕ → Bool
 named k = both (leb k 3) (not (eqb k 1))
 
--- 7, and the frame under the key that identifier k names of a link key
+-- 7, 17, and the frame under the key that identifier k names of a link key
 unfoldable pub sealedUnder : Settings → Board → List ℕ → List ℕ → ℕ → ℕ → Key → Framed
 sealedUnder z b f o h k key = send b (sealedFrame z (keyFor key k) Aps k (b .outgoing) (b .own) 0 f h) o
 

@@ -31,6 +31,8 @@ pub enum OnBoard {
     State,
     Heard(usize),
     Links,
+    Mark,
+    Marked(u32),
     Write(bool, Command),
 }
 
@@ -132,7 +134,9 @@ fn on_board_of(w: usize, v: [u64; 8]) -> OnBoard {
         8 => OnBoard::SealAps(v[1], (v[2] % 256) as u8),
         9 => OnBoard::State,
         10 => OnBoard::Heard(v[1] as usize),
-        _ => OnBoard::Links,
+        11 => OnBoard::Links,
+        12 => OnBoard::Mark,
+        _ => OnBoard::Marked((v[1] % 4294967296) as u32),
     }
 }
 

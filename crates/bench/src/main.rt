@@ -14,6 +14,7 @@ mod input;
 mod keys;
 mod label_lines;
 mod making;
+mod mark_lines;
 mod opening;
 mod requests;
 mod routing;

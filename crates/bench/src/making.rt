@@ -17,8 +17,8 @@ struct Start {
     board: Board,
 }
 
-pub(crate) fn make(own: u64, counter: u32, desk: Desk) -> Reply {
-    let start = start_of(own, counter);
+pub(crate) fn make(own: u64, found: u32, desk: Desk) -> Reply {
+    let start = start_of(own, found);
     let answer = start.answer;
     Reply {
         answer,
@@ -26,11 +26,10 @@ pub(crate) fn make(own: u64, counter: u32, desk: Desk) -> Reply {
     }
 }
 
-fn start_of(own: u64, counter: u32) -> Start {
-    let first = board::make(own);
+fn start_of(own: u64, found: u32) -> Start {
+    let first = board::make(own, found);
     let outcome = first.answer;
-    let mut b = first.board;
-    b.outgoing = counter;
+    let b = first.board;
     Start {
         made: is_done(outcome),
         answer: told(outcome),

@@ -19,6 +19,7 @@ use crate::hashes;
 use crate::keys;
 use crate::label_lines;
 use crate::making;
+use crate::mark_lines;
 use crate::opening;
 use crate::routing;
 use crate::sealing;
@@ -66,6 +67,8 @@ fn on_board(r: OnBoard, key: Frame, f: Frame, b: Board, lists: Lists, lent: Lent
         OnBoard::State => shown(show::state(b), b, lists),
         OnBoard::Heard(slot) => shown(show::heard(slot, lists, lent), b, lists),
         OnBoard::Links => shown(show::links(b), b, lists),
+        OnBoard::Mark => shown(mark_lines::mark(b), b, lists),
+        OnBoard::Marked(stored) => with_lists(mark_lines::marked(stored, b), lists),
         OnBoard::Write(ack, c) => with_lists(command_lines::write(ack, c, key, f, b, room), lists),
     }
 }
@@ -74,7 +77,7 @@ fn without_board(r: Alone, key: Frame, f: Frame, desk: Desk) -> Reply {
     let lent = desk.lent;
     let room = lent.room;
     match r {
-        Alone::Board(own, counter) => making::make(own, counter, desk),
+        Alone::Board(own, found) => making::make(own, found, desk),
         Alone::Lend(output, rows, tops) => making::lend(output, rows, tops, desk),
         Alone::Read(guard) => reply_same(command_lines::read(guard, f), desk),
         Alone::Tlv(guard, tag) => reply_same(command_lines::tlv(guard, tag, f), desk),

@@ -16,12 +16,13 @@ use lines::word;
 
 pub(crate) fn state(b: Board) -> Answer {
     let outgoing = decimal(done(), b.outgoing as u64);
-    let mark = b.active;
-    active(decimal(outgoing, b.aps as u64), mark)
+    let slot = b.active;
+    let counters = decimal(outgoing, b.aps as u64);
+    decimal(active(counters, slot), b.mark as u64)
 }
 
-fn active(a: Answer, mark: Active) -> Answer {
-    match mark {
+fn active(a: Answer, slot: Active) -> Answer {
+    match slot {
         Active::Nobody => word(a, b"-"),
         Active::Slot(i) => decimal(a, i as u64),
     }

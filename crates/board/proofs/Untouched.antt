@@ -1,5 +1,5 @@
--- What the requests leave alone, said once for the history: the own address and both counters stay under every request;
--- network requests leave the link entries, link requests the slots and the active mark.
+-- What the requests leave alone, said once for the history: the own address, both counters and the mark stay under every request
+-- that changes keys; network requests leave the link entries, link requests the slots and the active mark.
 -- Assumes nothing.
 use mathlib.Core.Path.{_≡_, refl}
 use mathlib.Core.Bool.{not}
@@ -21,6 +21,7 @@ use Rattle.board.specs.Requests.{linkOf, freeLink, added, addNew, addTo,
 pub record KeptByNetwork (b c : Board) : Type 0 where
   pub own : c .own ≡ b .own
   pub outgoing : c .outgoing ≡ b .outgoing
+  pub mark : c .mark ≡ b .mark
   pub aps : c .aps ≡ b .aps
   pub links : c .links ≡ b .links
 
@@ -28,22 +29,23 @@ pub record KeptByNetwork (b c : Board) : Type 0 where
 pub record KeptByLinks (b c : Board) : Type 0 where
   pub own : c .own ≡ b .own
   pub outgoing : c .outgoing ≡ b .outgoing
+  pub mark : c .mark ≡ b .mark
   pub aps : c .aps ≡ b .aps
   pub slots : c .slots ≡ b .slots
   pub active : c .active ≡ b .active
 
 -- whatever was put into one slot, or made active, or put into one entry
 slot-kept : (b : Board) (i : ℕ) (s : _) → KeptByNetwork b (withSlot b i s)
-slot-kept b i s = record { own = refl; outgoing = refl; aps = refl; links = refl }
+slot-kept b i s = record { own = refl; outgoing = refl; mark = refl; aps = refl; links = refl }
 
 same-network : (b : Board) → KeptByNetwork b b
-same-network b = record { own = refl; outgoing = refl; aps = refl; links = refl }
+same-network b = record { own = refl; outgoing = refl; mark = refl; aps = refl; links = refl }
 
 same-links : (b : Board) → KeptByLinks b b
-same-links b = record { own = refl; outgoing = refl; aps = refl; slots = refl; active = refl }
+same-links b = record { own = refl; outgoing = refl; mark = refl; aps = refl; slots = refl; active = refl }
 
 link-kept : (b : Board) (i : ℕ) (l : _) → KeptByLinks b (withLink b i l)
-link-kept b i l = record { own = refl; outgoing = refl; aps = refl; slots = refl; active = refl }
+link-kept b i l = record { own = refl; outgoing = refl; mark = refl; aps = refl; slots = refl; active = refl }
 
 pub install-keeps : (b : Board) (w : Lists) (i n : ℕ) (k : Key) → KeptByNetwork b (install b w i n k .board)
 unfolding install
@@ -62,7 +64,7 @@ unfolding switch
 switch-keeps b n = go (slotOf (b .slots) n)
   where
     go : (p : Place) → KeptByNetwork b (switchTo b p .board)
-    go (At i) = record { own = refl; outgoing = refl; aps = refl; links = refl }
+    go (At i) = record { own = refl; outgoing = refl; mark = refl; aps = refl; links = refl }
     go Absent = same-network b
 
 -- switching moves no key either

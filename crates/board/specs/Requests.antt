@@ -44,9 +44,10 @@ pub record Freed : Type 0 where
 abbrev pub freeing : Told → Lists → Freed
 freeing t w = record { answer = t; lists = w }
 
--- "Own address (zero or all ones: no state is made, 14)"; a board without an address stands for none
-unfoldable pub make : ℕ → Changed
-make a = if noAddress a then changed (refused 14) (fresh 0) else changed done (fresh a)
+-- "Own address (zero or all ones: no state is made, 14)"; a board without an address stands for none. It starts "at the mark it
+-- finds", m (document 02 (vi)).
+unfoldable pub make : ℕ → ℕ → Changed
+make a m = if noAddress a then changed (refused 14) (fresh 0 0) else changed done (fresh a m)
 
 -- ---- network keys
 

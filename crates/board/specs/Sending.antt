@@ -1,9 +1,10 @@
 -- Document 01 (RULES 8.2): sealing "writes the secured frame likewise, answers the length, and raises the outgoing counter by 1"; the
--- counter is "never lowered (ours)", and sealing is refused (7) with the board's own at 4,294,967,295.
+-- counter is "never lowered (ours)", and sealing is refused (7) with the board's own at 4,294,967,295; and document 02 (vi): "Sealing
+-- with the mark not yet moved is refused (17), judged after 7."
 -- Assumes nothing.
 use mathlib.Core.List.{List}
 use Prim.Native.Nat.{ℕ, _+_}
-use lib.Dec.{eqb}
+use lib.Dec.{eqb, ltb}
 use lib.ListN.{length}
 use Rattle.settings.specs.Settings.{top}
 use Rattle.octets.specs.Choice.{if_then_else_}
@@ -17,6 +18,7 @@ withOutgoing b n =
     record {
       own = b .own;
       outgoing = n;
+      mark = b .mark;
       aps = b .aps;
       slots = b .slots;
       active = b .active;
@@ -52,11 +54,11 @@ framed t b o = record { answer = t; board = b; out = o }
 
 -- what sealing needs of the board
 abbrev pub sendingOf : Board → Sending
-sendingOf b = record { own = b .own; counter = b .outgoing }
+sendingOf b = record { own = b .own; counter = b .outgoing; mark = b .mark }
 
--- 7: "counter 4,294,967,295, heard or own"
+-- 7: "counter 4,294,967,295, heard or own"; then 17: "Before any frame is sealed, the mark must be above its counter"
 unfoldable pub maySend : Sending → Told
-maySend s = if eqb (s .counter) top then refused 7 else done
+maySend s = if eqb (s .counter) top then refused 7 else (if ltb (s .counter) (s .mark) then done else refused 17)
 
 -- "writes the secured frame" x "likewise", which is "at the start of the output", "answers the length, and raises the outgoing
 -- counter by 1"; or "state, lists and output stay"

@@ -1,6 +1,7 @@
 -- Document 01, "The state and the lists" (RULES 2): "Own address; one outgoing 32-bit counter for all keys, never lowered (ours); an
 -- 8-bit APS counter; two network slots (present, sequence number, 16 octets); which slot is active, if any; eight link
--- entries (present, partner, key, floor). Fresh: both counters 0, nothing present, the rest zero."
+-- entries (present, partner, key, floor). Fresh: both counters 0, nothing present, the rest zero." And document 02 (vi): "Keep one saved
+-- number, the mark, in the host's store."
 -- Assumes nothing.
 use mathlib.Core.Bool.{Bool, false}
 use mathlib.Core.List.{List, []}
@@ -41,11 +42,14 @@ noSlot = record { present = false; seq = 0; key = zeroKey }
 abbrev pub noLink : Link
 noLink = record { present = false; partner = 0; key = zeroKey; floor = 0 }
 
-abbrev pub fresh : ℕ → Board
-fresh a =
+-- with the address a, at the mark m: "After a cut at any moment, the board starts, otherwise fresh, at the mark it finds (0 on a new
+-- board)"
+abbrev pub fresh : ℕ → ℕ → Board
+fresh a m =
     record {
       own = a;
-      outgoing = 0;
+      outgoing = m;
+      mark = m;
       aps = 0;
       slots = tab 2 (λ i. noSlot);
       active = actives.Nobody;
@@ -59,6 +63,7 @@ withSlot b i s =
     record {
       own = b .own;
       outgoing = b .outgoing;
+      mark = b .mark;
       aps = b .aps;
       slots = set (b .slots) i s;
       active = b .active;
@@ -70,6 +75,7 @@ withActive b i =
     record {
       own = b .own;
       outgoing = b .outgoing;
+      mark = b .mark;
       aps = b .aps;
       slots = b .slots;
       active = actives.Slot i;
@@ -81,6 +87,7 @@ withLink b i l =
     record {
       own = b .own;
       outgoing = b .outgoing;
+      mark = b .mark;
       aps = b .aps;
       slots = b .slots;
       active = b .active;

@@ -1,6 +1,7 @@
 // The board: its state by value, the two lent lists of heard senders, and the requests that change
 // keys.
 mod keys;
+mod mark;
 mod outgoing;
 mod partners;
 mod places;
@@ -12,6 +13,8 @@ use answers::Sealed;
 pub use keys::install;
 pub use keys::slot_of;
 pub use keys::switch;
+pub use mark::move_mark;
+pub use mark::next_mark;
 pub use outgoing::counter_after;
 pub use outgoing::may_send;
 pub use outgoing::sending_of;
@@ -49,9 +52,11 @@ pub enum Active {
     Slot(usize),
 }
 
+// The state. The mark is above every counter that was sent: the host's store holds it, or the next.
 pub struct Board {
     pub own: u64,
     pub outgoing: u32,
+    pub mark: u32,
     pub aps: u8,
     pub slots: [Slot; 2],
     pub active: Active,
@@ -64,10 +69,11 @@ pub struct After {
     pub board: Board,
 }
 
-// What sealing needs of the board: its address and the counter that goes out.
+// What sealing needs of the board: its address, the counter that goes out, and the mark.
 pub struct Sending {
     pub own: u64,
     pub counter: u32,
+    pub mark: u32,
 }
 
 // What sealing answers, and the board that it leaves.

@@ -16,15 +16,19 @@ pub fn sending_of(board: Board) -> Sending
     Sending {
         own: board.own,
         counter: board.outgoing,
+        mark: board.mark,
     }
 }
 
-// Whether a frame may go out: 7 where the counter is at its top.
+// Whether a frame may go out: 7 where the counter is at its top, then 17 where it is not below the mark.
 pub fn may_send(sending: Sending) -> Outcome
     ensures { λ r. ⌜ told r ≡ maySend sending ⌝ }
 {
     if sending.counter == TOP {
         return Outcome::Refused(Refusal::Top);
+    }
+    if sending.mark <= sending.counter {
+        return Outcome::Refused(Refusal::Mark);
     }
     Outcome::Done
 }

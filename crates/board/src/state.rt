@@ -25,8 +25,8 @@ pub(crate) fn no_link() -> Link
     }
 }
 
-fn fresh_board(own: u64) -> Board
-    ensures { λ r. ⌜ r ≡ fresh own ⌝ }
+fn fresh_board(own: u64, found: u32) -> Board
+    ensures { λ r. ⌜ r ≡ fresh own found ⌝ }
 {
     let slot = Slot {
         present: false,
@@ -38,7 +38,8 @@ fn fresh_board(own: u64) -> Board
     let links = [link; 8];
     Board {
         own,
-        outgoing: 0,
+        outgoing: found,
+        mark: found,
         aps: 0,
         slots,
         active: Active::Nobody,
@@ -46,14 +47,15 @@ fn fresh_board(own: u64) -> Board
     }
 }
 
-// A fresh board with that address; zero and all ones are 14, with a board without address.
-pub fn make(own: u64) -> After
-    ensures { λ r. ⌜ changed (told (r .answer)) (r .board) ≡ Requests·make own ⌝ }
+// A fresh board with that address, which starts at the mark that it finds in the host's store, 0 on a
+// new one. An address of zero or all ones is 14, with a board without address.
+pub fn make(own: u64, found: u32) -> After
+    ensures { λ r. ⌜ changed (told (r .answer)) (r .board) ≡ Requests·make own found ⌝ }
 {
     if octets::no_address(own) {
-        return refuse(Refusal::Argument, fresh_board(0));
+        return refuse(Refusal::Argument, fresh_board(0, 0));
     }
-    did(fresh_board(own))
+    did(fresh_board(own, found))
 }
 
 pub(crate) fn with_slot(board: Board, i: usize, s: Slot) -> Board
@@ -67,6 +69,7 @@ pub(crate) fn with_slot(board: Board, i: usize, s: Slot) -> Board
     Board {
         own: board.own,
         outgoing: board.outgoing,
+        mark: board.mark,
         aps: board.aps,
         slots,
         active,
@@ -82,6 +85,7 @@ pub(crate) fn with_active(board: Board, i: usize) -> Board
     Board {
         own: board.own,
         outgoing: board.outgoing,
+        mark: board.mark,
         aps: board.aps,
         slots,
         active: Active::Slot(i),

@@ -83,6 +83,7 @@ withAps b n =
     record {
       own = b .own;
       outgoing = b .outgoing;
+      mark = b .mark;
       aps = n;
       slots = b .slots;
       active = b .active;

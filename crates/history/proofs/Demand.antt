@@ -6,7 +6,7 @@ use Rattle.history.proofs.First.{first}
 use Rattle.history.proofs.Second.{second}
 
 pub demand-3 : Demand3
-demand-3 z n own fit wide made = (first z n own wide made, second z n own fit)
+demand-3 z n own found fit wide low made = (first z n own found wide low made, second z n own found fit)
 
 pub our-demand-3 : OurDemand3
 our-demand-3 = demand-3 ours

@@ -16,11 +16,12 @@ use Rattle.octets.specs.Keys.{Key}
 use Rattle.settings.specs.Settings.{Settings, longest, top}
 use Rattle.octets.specs.Choice.{if_then_else_, both}
 use Rattle.octets.specs.Lists.{Octets}
-use Rattle.history.specs.Calls.{Call, install, opening, writing, routing, Reply, gave, refuses, Exchange, Replies, exchanges, SealsOctets}
-use Rattle.history.specs.Events.{Holder, slot, link, nowhere, Installation, none, key, HeardFrame, Event, keyed, forgot, heard, sent, same, keyIn, slotFor, holderFor, without, heardIn, sentIn}
+use Rattle.history.specs.Calls.{Call, install, opening, writing, routing, Reply, gave, refuses, Exchange}
+use Rattle.history.specs.Deeds.{Deed, called, wrote, cut, Replies, log, stored, SealsOctets, writesAnswered, tellsStored}
+use Rattle.history.specs.Events.{Holder, slot, link, nowhere, Installation, none, key, HeardFrame, Event, keyed, forgot, heard, sent, lost, same, keyIn, slotFor, holderFor, without, heardIn, sentIn}
 use Rattle.history.specs.Story.{eventsOf, story}
 use Rattle.history.specs.Statement.{readings, lower, rising, First, longestAt, keyAt, aboveAll, room, passesUnder, passesRead, passes, Rightly, Second}
-use Rattle.history.specs.Running.{Held, byNetwork, byFrame, step, run, replies}
+use Rattle.history.specs.Running.{Held, byNetwork, byFrame, step, start, run, replies}
 use Rattle.history.proofs.Searches.{clash, not-twice}
 use Rattle.history.proofs.Second.{key-nowhere, plain-not}
 use Rattle.network.proofs.Ways as networkWays
@@ -93,10 +94,12 @@ rising-apart (secured s ∷ rs) r (suc i) (suc j) h k =
 rising-apart (plain n ∷ rs) r i j h k = clash r refl
 rising-apart (refused n ∷ rs) r i j h k = clash r refl
 
-pub no-two-same : (z : Settings) (board : Replies) → First z board → (cs : List Call) → SealsOctets cs
-    → let rs = readings z (sentIn (story z (exchanges board cs))) in
+pub no-two-same : (z : Settings) (found : ℕ) (board : Replies) → First z found board → (cs : List (Deed Call)) → SealsOctets cs
+    → writesAnswered (log board cs) ≡ true → tellsStored found (log board cs) ≡ true
+    → let rs = readings z (sentIn (story z (log board cs))) in
     (i j : ℕ) → i < j → j < length rs → Apart (getD rs i (plain 0)) (getD rs j (plain 0))
-no-two-same z board meets cs o i j h k = rising-apart (readings z (sentIn (story z (exchanges board cs)))) (meets cs o) i j h k
+no-two-same z found board meets cs o ws ts i j h k =
+    rising-apart (readings z (sentIn (story z (log board cs)))) (meets cs o ws ts) i j h k
 
 -- ---- of any board, whatever it replies: "wrapping it or sending it on seals nothing" (02 (i))
 
@@ -104,52 +107,59 @@ adds-nothing : (t : Bool) (h : List Event) → (if t then [] else []) ++ h ≡ h
 adds-nothing true h = refl
 adds-nothing false h = refl
 
-pub wraps-nothing : (z : Settings) (a : Bool) (c : Command) (k r o : List ℕ) (y : Reply) (xs : List Exchange)
-    → story z (record { call = writing a c k r o; reply = y } ∷ xs) ≡ story z xs
+pub wraps-nothing : (z : Settings) (a : Bool) (c : Command) (k r o : List ℕ) (y : Reply) (xs : List (Deed Exchange))
+    → story z (called (record { call = writing a c k r o; reply = y }) ∷ xs) ≡ story z xs
 wraps-nothing z a c k r o y xs = adds-nothing (refuses y) (story z xs)
 
-pub routes-nothing : (z : Settings) (f : List ℕ) (p : ProtectionTold) (y : Reply) (xs : List Exchange)
-    → story z (record { call = routing f p; reply = y } ∷ xs) ≡ story z xs
+pub routes-nothing : (z : Settings) (f : List ℕ) (p : ProtectionTold) (y : Reply) (xs : List (Deed Exchange))
+    → story z (called (record { call = routing f p; reply = y }) ∷ xs) ≡ story z xs
 routes-nothing z f p y xs = adds-nothing (refuses y) (story z xs)
 
--- ---- calls after calls
+-- ---- deeds after deeds
 
--- the exchanges of the calls ds, made after cs
-abbrev pub later : Replies → List Call → List Call → List Exchange
+-- the log of the deeds ds, done after cs
+abbrev pub later : Replies → List (Deed Call) → List (Deed Call) → List (Deed Exchange)
 later board [] cs = []
-later board (d ∷ ds) cs = record { call = d; reply = board (ds ++ cs) d } ∷ later board ds cs
+later board (called d ∷ ds) cs = called (record { call = d; reply = board (ds ++ cs) d }) ∷ later board ds cs
+later board (wrote m ∷ ds) cs = wrote m ∷ later board ds cs
+later board (cut ∷ ds) cs = cut ∷ later board ds cs
 
--- the events that exchanges tell after the events h
-abbrev pub since : Settings → List Exchange → List Event → List Event
+-- the events that a log tells after the events h
+abbrev pub since : Settings → List (Deed Exchange) → List Event → List Event
 since z [] h = []
-since z (x ∷ xs) h = eventsOf z (since z xs h ++ h) (x .call) (x .reply) ++ since z xs h
+since z (called x ∷ xs) h = eventsOf z (since z xs h ++ h) (x .call) (x .reply) ++ since z xs h
+since z (wrote m ∷ xs) h = since z xs h
+since z (cut ∷ xs) h = lost ∷ since z xs h
 
 append-three : (xs ys zs : List Event) → (xs ++ ys) ++ zs ≡ xs ++ (ys ++ zs)
 append-three [] ys zs = refl
 append-three (x ∷ xs) ys zs = ap (λ (l : List Event). x ∷ l) (append-three xs ys zs)
 
-story-since : (z : Settings) (board : Replies) (ds cs : List Call)
-    → story z (exchanges board (ds ++ cs)) ≡ since z (later board ds cs) (story z (exchanges board cs)) ++ story z (exchanges board cs)
+story-since : (z : Settings) (board : Replies) (ds cs : List (Deed Call))
+    → story z (log board (ds ++ cs)) ≡ since z (later board ds cs) (story z (log board cs)) ++ story z (log board cs)
 story-since z board [] cs = refl
-story-since z board (d ∷ ds) cs =
+story-since z board (called d ∷ ds) cs =
     ap (λ (h : List Event). eventsOf z h d (board (ds ++ cs) d) ++ h) (story-since z board ds cs)
     ∙ sym (append-three (eventsOf z (es ++ h) d (board (ds ++ cs) d)) es h)
   where
     h : List Event
-    h = story z (exchanges board cs)
+    h = story z (log board cs)
 
     es : List Event
-    es = since z (later board ds cs) (story z (exchanges board cs))
+    es = since z (later board ds cs) (story z (log board cs))
+story-since z board (wrote m ∷ ds) cs = story-since z board ds cs
+story-since z board (cut ∷ ds) cs = ap (λ (h : List Event). lost ∷ h) (story-since z board ds cs)
 
 -- ---- frames that are not above all that were opened
 
--- nothing was installed or removed at x, and sender a was not forgotten there
+-- nothing was installed or removed at x, sender a was not forgotten there, and the board lost no power
 abbrev pub untouched : Holder → ℕ → List Event → Bool
 untouched x a [] = true
 untouched x a (keyed y k ∷ h) = both (not (same y x)) (untouched x a h)
 untouched x a (forgot y b ∷ h) = both (not (both (same y x) (eqb b a))) (untouched x a h)
 untouched x a (heard y r ∷ h) = untouched x a h
 untouched x a (sent s ∷ h) = untouched x a h
+untouched x a (lost ∷ h) = false
 
 above-without : (a b c : ℕ) (l : List HeardFrame) → (b ≡ a → ⊥) → aboveAll a c (without b l) ≡ aboveAll a c l
 above-without a b c [] ne = refl
@@ -186,6 +196,7 @@ stale-stays x a c (heard y r ∷ es) h u e = go (same y x) (stale-stays x a c es
         ap (both above) ih ∙ both-false above
     go false ih = ih
 stale-stays x a c (sent s ∷ es) h u e = stale-stays x a c es h u e
+stale-stays x a c (lost ∷ es) h u e = clash u refl
 
 same-self : (h : List Event) (x : Holder) (n : ℕ) (k : Key) → keyIn h x ≡ key n k → same x x ≡ true
 same-self h (slot i) n k e = eq-eqb i i refl
@@ -236,113 +247,113 @@ module _ (z : Settings) (m : ℕ) (h : List Event) (l : Layer) (f : List ℕ) (g
 
 module _ (z : Settings) (m : ℕ) (board : Replies) (meets : Second z m board) where
   -- a secured frame
-  opened-so : (cs : List Call) (l : Layer) (f : List ℕ) (g : ℕ) (o : List ℕ) (s : Secured) → Octets f → reading z l f g ≡ secured s
-      → not (refuses (board cs (opening l f g o))) ≡ passes z m (story z (exchanges board cs)) l f g o
+  opened-so : (cs : List (Deed Call)) (l : Layer) (f : List ℕ) (g : ℕ) (o : List ℕ) (s : Secured) → Octets f → reading z l f g ≡ secured s
+      → not (refuses (board cs (opening l f g o))) ≡ passes z m (story z (log board cs)) l f g o
   opened-so cs l f g o s octets e =
-      subst (λ (r : Reading). Rightly r (board cs (opening l f g o)) (passes z m (story z (exchanges board cs)) l f g o)) e
+      subst (λ (r : Reading). Rightly r (board cs (opening l f g o)) (passes z m (story z (log board cs)) l f g o)) e
       (meets cs l f g o octets)
 
   -- a frame that is not above all counters opened is refused, whatever else might be told of it: also as unsecured
-  pub stale-refused : (cs : List Call) (l : Layer) (f : List ℕ) (g : ℕ) (o : List ℕ) (s : Secured) → Octets f → reading z l f g ≡ secured s
-      → let h = story z (exchanges board cs) in
+  pub stale-refused : (cs : List (Deed Call)) (l : Layer) (f : List ℕ) (g : ℕ) (o : List ℕ) (s : Secured) → Octets f → reading z l f g ≡ secured s
+      → let h = story z (log board cs) in
       aboveAll (s .sender) (s .counter) (heardIn h (holderFor h l s)) ≡ false → refuses (board cs (opening l f g o)) ≡ true
   stale-refused cs l f g o s octets e q =
       not-back (refuses (board cs (opening l f g o))) false
-      (opened-so cs l f g o s octets e ∙ stale-not z m (story z (exchanges board cs)) l f g o s e q)
+      (opened-so cs l f g o s octets e ∙ stale-not z m (story z (log board cs)) l f g o s e q)
 
-  module _ (cs : List Call) (l : Layer) (f : List ℕ) (g : ℕ) (o : List ℕ) (s : Secured) (octets : Octets f)
+  module _ (cs : List (Deed Call)) (l : Layer) (f : List ℕ) (g : ℕ) (o : List ℕ) (s : Secured) (octets : Octets f)
       (read : reading z l f g ≡ secured s) (open-first : refuses (board cs (opening l f g o)) ≡ false) where
     abbrev once : Call
     once = opening l f g o
 
     abbrev home : Holder
-    home = holderFor (story z (exchanges board cs)) l s
+    home = holderFor (story z (log board cs)) l s
 
-    key-there : Found z m (story z (exchanges board cs)) l f g o s read
-    key-there = has-key z m (story z (exchanges board cs)) l f g o s read (sym (opened-so cs l f g o s octets read) ∙ ap not open-first)
+    key-there : Found z m (story z (log board cs)) l f g o s read
+    key-there = has-key z m (story z (log board cs)) l f g o s read (sym (opened-so cs l f g o s octets read) ∙ ap not open-first)
 
     -- as soon as it was opened
-    not-above : aboveAll (s .sender) (s .counter) (heardIn (story z (exchanges board (once ∷ cs))) home) ≡ false
+    not-above : aboveAll (s .sender) (s .counter) (heardIn (story z (log board (called once ∷ cs))) home) ≡ false
     not-above =
         rw (
           open-first,
           read,
-          same-self (story z (exchanges board cs)) home (key-there .number) (key-there .octets) (key-there .found),
+          same-self (story z (log board cs)) home (key-there .number) (key-there .octets) (key-there .found),
           eq-eqb (s .sender) (s .sender) refl,
           le-ltb (s .counter) (s .counter) (omega arith),
         ) refl
 
     -- A frame that was opened is refused when it comes again, with any sender under which it is read the same, after any calls by
     -- which its key's place has no other key, its sender is not forgotten there, and the frame's key still stands there.
-    pub replay-refused : (ds : List Call)
-        → untouched home (s .sender) (since z (later board ds (once ∷ cs)) (story z (exchanges board (once ∷ cs)))) ≡ true
-        → holderFor (story z (exchanges board (ds ++ (once ∷ cs)))) l s ≡ home
-        → (k : ℕ) (p : List ℕ) → reading z l f k ≡ secured s → refuses (board (ds ++ (once ∷ cs)) (opening l f k p)) ≡ true
+    pub replay-refused : (ds : List (Deed Call))
+        → untouched home (s .sender) (since z (later board ds (called once ∷ cs)) (story z (log board (called once ∷ cs)))) ≡ true
+        → holderFor (story z (log board (ds ++ (called once ∷ cs)))) l s ≡ home
+        → (k : ℕ) (p : List ℕ) → reading z l f k ≡ secured s → refuses (board (ds ++ (called once ∷ cs)) (opening l f k p)) ≡ true
     replay-refused ds u same-place k p again =
-        stale-refused (ds ++ (once ∷ cs)) l f k p s octets again
-        (ap (λ (y : Holder). aboveAll (s .sender) (s .counter) (heardIn (story z (exchanges board (ds ++ (once ∷ cs)))) y)) same-place
-        ∙ ap (λ (h : List Event). aboveAll (s .sender) (s .counter) (heardIn h home)) (story-since z board ds (once ∷ cs))
-        ∙ stale-stays home (s .sender) (s .counter) (since z (later board ds (once ∷ cs)) (story z (exchanges board (once ∷ cs))))
-        (story z (exchanges board (once ∷ cs))) u not-above)
+        stale-refused (ds ++ (called once ∷ cs)) l f k p s octets again
+        (ap (λ (y : Holder). aboveAll (s .sender) (s .counter) (heardIn (story z (log board (ds ++ (called once ∷ cs)))) y)) same-place
+        ∙ ap (λ (h : List Event). aboveAll (s .sender) (s .counter) (heardIn h home)) (story-since z board ds (called once ∷ cs))
+        ∙ stale-stays home (s .sender) (s .counter) (since z (later board ds (called once ∷ cs)) (story z (log board (called once ∷ cs))))
+        (story z (log board (called once ∷ cs))) u not-above)
 
   -- ---- a frame that is refused
 
   -- the frame is not unsecured
-  opened-is : (cs : List Call) (l : Layer) (f : List ℕ) (g : ℕ) (o : List ℕ) → Octets f → ((n : ℕ) → reading z l f g ≡ plain n → ⊥)
-      → not (refuses (board cs (opening l f g o))) ≡ passes z m (story z (exchanges board cs)) l f g o
+  opened-is : (cs : List (Deed Call)) (l : Layer) (f : List ℕ) (g : ℕ) (o : List ℕ) → Octets f → ((n : ℕ) → reading z l f g ≡ plain n → ⊥)
+      → not (refuses (board cs (opening l f g o))) ≡ passes z m (story z (log board cs)) l f g o
   opened-is cs l f g o octets ne = go (reading z l f g) refl (meets cs l f g o octets)
     where
-      go : (r : Reading) → reading z l f g ≡ r → Rightly r (board cs (opening l f g o)) (passes z m (story z (exchanges board cs)) l f g o)
-          → not (refuses (board cs (opening l f g o))) ≡ passes z m (story z (exchanges board cs)) l f g o
+      go : (r : Reading) → reading z l f g ≡ r → Rightly r (board cs (opening l f g o)) (passes z m (story z (log board cs)) l f g o)
+          → not (refuses (board cs (opening l f g o))) ≡ passes z m (story z (log board cs)) l f g o
       go (secured s) e t = t
       go (refused n) e t = t
       go (plain n) e t = absurd (ne n e)
 
   -- leaves what may be opened as it was: whatever calls follow, as long as they are answered as they would have been without it,
   -- the next frame that is not unsecured is opened just if it would have been
-  pub refused-leaves : (cs : List Call) (l : Layer) (f : List ℕ) (g : ℕ) (o : List ℕ) → refuses (board cs (opening l f g o)) ≡ true
-      → (ds : List Call) → later board ds (opening l f g o ∷ cs) ≡ later board ds cs
+  pub refused-leaves : (cs : List (Deed Call)) (l : Layer) (f : List ℕ) (g : ℕ) (o : List ℕ) → refuses (board cs (opening l f g o)) ≡ true
+      → (ds : List (Deed Call)) → later board ds (called (opening l f g o) ∷ cs) ≡ later board ds cs
       → (k : Layer) (e : List ℕ) (a : ℕ) (p : List ℕ) → Octets e → ((n : ℕ) → reading z k e a ≡ plain n → ⊥)
-      → refuses (board (ds ++ (opening l f g o ∷ cs)) (opening k e a p)) ≡ refuses (board (ds ++ cs) (opening k e a p))
+      → refuses (board (ds ++ (called (opening l f g o) ∷ cs)) (opening k e a p)) ≡ refuses (board (ds ++ cs) (opening k e a p))
   refused-leaves cs l f g o turned ds alike k e a p octets ne =
-      not-back _ _ (opened-is (ds ++ (opening l f g o ∷ cs)) k e a p octets ne
+      not-back _ _ (opened-is (ds ++ (called (opening l f g o) ∷ cs)) k e a p octets ne
       ∙ ap (λ (h : List Event). passes z m h k e a p) stories ∙ sym (opened-is (ds ++ cs) k e a p octets ne))
       ∙ not-twice (refuses (board (ds ++ cs) (opening k e a p)))
     where
-      told-nothing : story z (exchanges board (opening l f g o ∷ cs)) ≡ story z (exchanges board cs)
+      told-nothing : story z (log board (called (opening l f g o) ∷ cs)) ≡ story z (log board cs)
       told-nothing = rw turned refl
 
-      stories : story z (exchanges board (ds ++ (opening l f g o ∷ cs))) ≡ story z (exchanges board (ds ++ cs))
+      stories : story z (log board (ds ++ (called (opening l f g o) ∷ cs))) ≡ story z (log board (ds ++ cs))
       stories =
-          story-since z board ds (opening l f g o ∷ cs)
-          ∙ ap (λ (h : List Event). since z (later board ds (opening l f g o ∷ cs)) h ++ h) told-nothing
-          ∙ ap (λ (xs : List Exchange). since z xs (story z (exchanges board cs)) ++ story z (exchanges board cs)) alike
+          story-since z board ds (called (opening l f g o) ∷ cs)
+          ∙ ap (λ (h : List Event). since z (later board ds (called (opening l f g o) ∷ cs)) h ++ h) told-nothing
+          ∙ ap (λ (xs : List (Deed Exchange)). since z xs (story z (log board cs)) ++ story z (log board cs)) alike
           ∙ sym (story-since z board ds cs)
 
   -- ---- wrong boards
 
   -- one that opens a secured frame and gives the same reply to it again, as a board does that never raises a floor
-  pub never-repeats : (cs : List Call) (l : Layer) (f : List ℕ) (g : ℕ) (o : List ℕ) (s : Secured) → Octets f → reading z l f g ≡ secured s
-      → refuses (board cs (opening l f g o)) ≡ false → board (opening l f g o ∷ cs) (opening l f g o) ≡ board cs (opening l f g o) → ⊥
+  pub never-repeats : (cs : List (Deed Call)) (l : Layer) (f : List ℕ) (g : ℕ) (o : List ℕ) (s : Secured) → Octets f → reading z l f g ≡ secured s
+      → refuses (board cs (opening l f g o)) ≡ false → board (called (opening l f g o) ∷ cs) (opening l f g o) ≡ board cs (opening l f g o) → ⊥
   unfolding slotFor
   never-repeats cs l f g o s octets read first again =
-      clash (stale-refused (opening l f g o ∷ cs) l f g o s octets read
-      (ap (λ (y : Holder). aboveAll (s .sender) (s .counter) (heardIn (story z (exchanges board (opening l f g o ∷ cs))) y)) place
+      clash (stale-refused (called (opening l f g o) ∷ cs) l f g o s octets read
+      (ap (λ (y : Holder). aboveAll (s .sender) (s .counter) (heardIn (story z (log board (called (opening l f g o) ∷ cs))) y)) place
       ∙ not-above cs l f g o s octets read first)) (ap refuses again ∙ first)
     where
-      place : holderFor (story z (exchanges board (opening l f g o ∷ cs))) l s ≡ holderFor (story z (exchanges board cs)) l s
+      place : holderFor (story z (log board (called (opening l f g o) ∷ cs))) l s ≡ holderFor (story z (log board cs)) l s
       place = go l first read
         where
           go : (l : Layer) → refuses (board cs (opening l f g o)) ≡ false → reading z l f g ≡ secured s
-              → holderFor (story z (exchanges board (opening l f g o ∷ cs))) l s ≡ holderFor (story z (exchanges board cs)) l s
+              → holderFor (story z (log board (called (opening l f g o) ∷ cs))) l s ≡ holderFor (story z (log board cs)) l s
           go Network q r = rw (q, r) refl
           go Aps q r = refl
 
   -- a frame that was sealed under a key that is there is opened, where its counter is new, its sender finds room and the output
   -- has room
-  pub sealed-opens : Fair z → (cs : List Call) (l : Layer) (k : Key) (q c n a : ℕ) (f : List ℕ) (i g : ℕ) (o : List ℕ) (j : Key) (y : ℕ)
+  pub sealed-opens : Fair z → (cs : List (Deed Call)) (l : Layer) (k : Key) (q c n a : ℕ) (f : List ℕ) (i g : ℕ) (o : List ℕ) (j : Key) (y : ℕ)
       → ToSeal l f i c n a → Octets (k .octets) → q < 256 → longest ≤ length o → length f + sentOctets c + z .tag ≤ longestAt l
-      → let h = story z (exchanges board cs) in
+      → let h = story z (log board cs) in
       keyIn h (holderFor h l (announcing i c n a q)) ≡ key y j → keyAt l (announcing i c n a q) j ≡ k → n < top
       → aboveAll a n (heardIn h (holderFor h l (announcing i c n a q))) ≡ true → room m h (holderFor h l (announcing i c n a q)) a ≡ true
       → refuses (board cs (opening l (sealedFrame z k l c n a q f i) g o)) ≡ false
@@ -354,7 +365,7 @@ module _ (z : Settings) (m : ℕ) (board : Replies) (meets : Second z m board) w
       read : reading z l (sealedFrame z k l c n a q f i) g ≡ secured (announcing i c n a q)
       read = read-again z k q p g
 
-      pass : passes z m (story z (exchanges board cs)) l (sealedFrame z k l c n a q f i) g o ≡ true
+      pass : passes z m (story z (log board cs)) l (sealedFrame z k l c n a q f i) g o ≡ true
       pass =
           simp (
             le-leb longest (length o) ro,
@@ -372,10 +383,10 @@ module _ (z : Settings) (m : ℕ) (board : Replies) (meets : Second z m board) w
   pub installed-opens : Fair z → (k : Key) (q n a : ℕ) (f : List ℕ) (i g : ℕ) (o : List ℕ) → 0 < m
       → refuses (board [] (install 0 q k)) ≡ false → ToSeal Network f i 1 n a → Octets (k .octets) → q < 256 → longest ≤ length o
       → length f + sentOctets 1 + z .tag ≤ longest → n < top
-      → refuses (board (install 0 q k ∷ []) (opening Network (sealedFrame z k Network 1 n a q f i) g o)) ≡ false
+      → refuses (board (called (install 0 q k) ∷ []) (opening Network (sealedFrame z k Network 1 n a q f i) g o)) ≡ false
   unfolding slotFor firstAt
   installed-opens fair k q n a f i g o mp took p ok oq ro so nt =
-      sealed-opens fair (install 0 q k ∷ []) Network k q 1 n a f i g o k q p ok oq ro so
+      sealed-opens fair (called (install 0 q k) ∷ []) Network k q 1 n a f i g o k q p ok oq ro so
       (rw (took, eq-eqb q q refl) refl) refl nt (rw (took, eq-eqb q q refl) refl) (rw (took, eq-eqb q q refl) (lt-ltb 0 m mp))
 
 -- ---- of ours: a refused frame might as well not have come
@@ -390,12 +401,22 @@ module _ (z : Settings) (x : Held) (f : List ℕ) (g : ℕ) (o : List ℕ) where
       apsWays.open-ways z (x .board) f g o (λ (r : Framed). refuses (byFrame x r .reply) ≡ true → byFrame x r .after ≡ x) (λ k e. refl)
       (λ k q e. refl) (λ s i t e. clash e refl)
 
-module _ (z : Settings) (n own : ℕ) (cs : List Call) (l : Layer) (f : List ℕ) (g : ℕ) (o : List ℕ)
-    (turned : refuses (replies z n own cs (opening l f g o)) ≡ true) where
-  leaves-all : (ds : List Call) → run z n own (ds ++ (opening l f g o ∷ cs)) ≡ run z n own (ds ++ cs)
-  leaves-all [] = refused-stays z (run z n own cs) f g o l turned
-  leaves-all (d ∷ ds) = ap (λ (x : Held). step z d x .after) (leaves-all ds)
+module _ (z : Settings) (n own found : ℕ) (cs : List (Deed Call)) (l : Layer) (f : List ℕ) (g : ℕ) (o : List ℕ)
+    (turned : refuses (replies z n own found cs (opening l f g o)) ≡ true) where
+  -- no frame touches the store
+  same-store : (ds : List (Deed Call)) → stored found (ds ++ (called (opening l f g o) ∷ cs)) ≡ stored found (ds ++ cs)
+  same-store [] = refl
+  same-store (called d ∷ ds) = same-store ds
+  same-store (wrote m ∷ ds) = refl
+  same-store (cut ∷ ds) = same-store ds
+
+  leaves-all : (ds : List (Deed Call)) → run z n own found (ds ++ (called (opening l f g o) ∷ cs)) ≡ run z n own found (ds ++ cs)
+  leaves-all [] = refused-stays z (run z n own found cs) f g o l turned
+  leaves-all (called d ∷ ds) = ap (λ (x : Held). step z d x .after) (leaves-all ds)
+  leaves-all (wrote m ∷ ds) = leaves-all ds
+  leaves-all (cut ∷ ds) = ap (start n own) (same-store ds)
 
   -- forged (9), or refused for any other cause
-  pub forged-changes-nothing : (ds : List Call) (d : Call) → replies z n own (ds ++ (opening l f g o ∷ cs)) d ≡ replies z n own (ds ++ cs) d
+  pub forged-changes-nothing : (ds : List (Deed Call)) (d : Call)
+      → replies z n own found (ds ++ (called (opening l f g o) ∷ cs)) d ≡ replies z n own found (ds ++ cs) d
   forged-changes-nothing ds d = ap (λ (x : Held). step z d x .reply) (leaves-all ds)

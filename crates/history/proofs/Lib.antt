@@ -6,8 +6,10 @@ pub mod Senders
 pub mod Slots
 pub mod Links
 pub mod Ways
+pub mod Marks
 pub mod Stands
 pub mod Second
 pub mod First
 pub mod Demand
 pub mod Follows
+pub mod Supposed

@@ -71,16 +71,16 @@ pub links-ext : {ls : List Link} {keys keys' : ℕ → Installation} {opened ope
 links-ext {ls} {keys} {keys'} {opened} {opened'} w p q =
     record { eight = w .eight; once = w .once; tells = λ a. rw (← p a, ← q a) (w .tells a) }
 
-pub links-fresh : (own : ℕ) → Links (fresh own .links) (λ a. none) (λ a. [])
+pub links-fresh : (own m : ℕ) → Links (fresh own m .links) (λ a. none) (λ a. [])
 unfolding linkOf
-links-fresh own =
+links-fresh own m =
     record {
       eight = refl;
       once = λ a i j h k e f. clash e (free a i h);
-      tells = λ a. rw (first-nowhere (pairsAt (fresh own .links) a) 8 0 (λ i b c. free a i (omega arith))) refl;
+      tells = λ a. rw (first-nowhere (pairsAt (fresh own m .links) a) 8 0 (λ i b c. free a i (omega arith))) refl;
     }
   where
-    free : (a i : ℕ) → i < 8 → pairsAt (fresh own .links) a i ≡ false
+    free : (a i : ℕ) → i < 8 → pairsAt (fresh own m .links) a i ≡ false
     free a i h = ap (λ (l : Link). pairs l a) (getD-tab 8 (λ j. noLink) i _ h) ∙ no-pair a
 
 -- ---- one entry changes: it was free or the partner's, and is so again

@@ -15,8 +15,9 @@ use Rattle.octets.proofs.Numbers.{number-lt}
 use Rattle.octets.specs.Choice.{if_then_else_, both}
 use Rattle.octets.specs.Lists.{Octets}
 use Rattle.history.specs.Calls.{opening}
-use Rattle.history.specs.Calls.{refuses, exchanges}
-use Rattle.history.specs.Events.{Holder, slot, link, nowhere, Installation, none, key, HeardFrame, Event, keyed, forgot, heard, sent, same, keyIn, holderAt, heardIn, isFrom, senders}
+use Rattle.history.specs.Calls.{refuses}
+use Rattle.history.specs.Deeds.{log}
+use Rattle.history.specs.Events.{Holder, slot, link, nowhere, Installation, none, key, HeardFrame, Event, keyed, forgot, heard, sent, lost, same, keyIn, holderAt, heardIn, isFrom, senders}
 use Rattle.history.specs.Story.{story}
 use Rattle.history.specs.Statement.{aboveAll, room, passesUnder, passesRead, passes, tellsKey, Rightly, Second}
 use Rattle.history.specs.Running.{Held, byNetwork, byFrame, step, run, replies}
@@ -115,6 +116,7 @@ key-nowhere (keyed y k ∷ h) = rw (same-nowhere y) (key-nowhere h)
 key-nowhere (forgot y a ∷ h) = key-nowhere h
 key-nowhere (heard y r ∷ h) = key-nowhere h
 key-nowhere (sent s ∷ h) = key-nowhere h
+key-nowhere (lost ∷ h) = refl
 
 module _ (z : Settings) (m : ℕ) (fit : legal (2 * m) ≡ true) (x : Held) (h : List Event) (w : Stands m x h) (f : List ℕ) (g : ℕ)
     (o : List ℕ) (octets : Octets f) where
@@ -278,7 +280,7 @@ module _ (z : Settings) (m : ℕ) (fit : legal (2 * m) ≡ true) (x : Held) (h :
   rightly l (refused k) e = tell l (λ n q. plain-refused n k (sym q ∙ e))
   rightly l (plain n) e = clear l n e
 
-pub second : (z : Settings) (n own : ℕ) → legal n ≡ true → Second z (n / 2) (replies z n own)
-second z n own fit cs l f g o octets =
-    rightly z (n / 2) (ap legal (sym (legal-twice n fit)) ∙ fit) (run z n own cs) (story z (exchanges (replies z n own) cs))
-    (stands z n own fit cs) f g o octets l (reading z l f g) refl
+pub second : (z : Settings) (n own found : ℕ) → legal n ≡ true → Second z (n / 2) (replies z n own found)
+second z n own found fit ds l f g o octets =
+    rightly z (n / 2) (ap legal (sym (legal-twice n fit)) ∙ fit) (run z n own found ds) (story z (log (replies z n own found) ds))
+    (stands z n own found fit ds) f g o octets l (reading z l f g) refl

@@ -44,8 +44,8 @@ pub record Slots (ss : List Slot) (keys : ℕ → Installation) : Type 0 where
   pub two : length ss ≡ 2
   pub keeps : (i : ℕ) → i < 2 → Keeps (slotAt ss i) (keys i)
 
-pub slots-fresh : (own : ℕ) → Slots (fresh own .slots) (λ i. none)
-slots-fresh own = record { two = refl; keeps = λ i h. ap (λ (s : Slot). s .present) (getD-tab 2 (λ j. noSlot) i _ h) }
+pub slots-fresh : (own m : ℕ) → Slots (fresh own m .slots) (λ i. none)
+slots-fresh own m = record { two = refl; keeps = λ i h. ap (λ (s : Slot). s .present) (getD-tab 2 (λ j. noSlot) i _ h) }
 
 module _ {ss : List Slot} {keys : ℕ → Installation} (w : Slots ss keys) where
   -- the lowest slot with a number, by what was installed

@@ -1,4 +1,4 @@
--- What the state and the lists mean after any calls: the slots, the rows and the link entries are what calls and answers tell.
+-- What the state and the lists mean after any deeds: the slots, the rows and the link entries are what calls and answers tell.
 -- Assumes nothing.
 use mathlib.Core.Path.{_≡_, refl, sym, subst, ap, _∙_}
 use mathlib.Core.Bool.{Bool, true, false, not}
@@ -13,9 +13,10 @@ use Rattle.settings.specs.Settings.{Settings}
 use Rattle.octets.proofs.Choices.{choose}
 use Rattle.octets.specs.Addresses.{noAddress}
 use Rattle.octets.specs.Choice.{if_then_else_, both}
-use Rattle.history.specs.Calls.{Call, install, switch, addLink, removeLink, forget, opening, sealing, looking, writing, routing, sentOn}
-use Rattle.history.specs.Calls.{handedOut, exchanges}
-use Rattle.history.specs.Events.{Event, Installation, HeardFrame, slot, link, keyed, key, none, keyIn, sameKey, slotFor, without, heardIn}
+use Rattle.history.specs.Calls.{Call, install, switch, addLink, removeLink, forget, opening, sealing, looking, writing, routing, nextMark, marked, sentOn}
+use Rattle.history.specs.Calls.{handedOut}
+use Rattle.history.specs.Deeds.{Deed, called, wrote, cut, log, stored}
+use Rattle.history.specs.Events.{Event, lost, Installation, HeardFrame, slot, link, keyed, key, none, keyIn, sameKey, slotFor, without, heardIn}
 use Rattle.history.specs.Story.{installing, hearing, eventsOf, story}
 use Rattle.history.specs.Running.{Held, held, Step, byLists, byBoard, byRows, byNetwork, byFrame, step, start, run, replies}
 use Rattle.history.proofs.Searches.{clash}
@@ -48,6 +49,8 @@ use Rattle.commands.specs.Writing.{apsRaised}
 use Rattle.router.specs.declared.Portion.the-variants.{Whole}
 use Rattle.router.specs.Routing.{RouteTold, onward, halted, route, handedOn}
 use Rattle.board.specs.Requests as requests
+use Rattle.board.specs.Mark as marks
+use Rattle.board.specs.Mark.{withMark, moveMark}
 use Rattle.network.specs.Opening.{Lent, Opening}
 use Rattle.network.proofs.Ways as network
 use Rattle.seals.specs.Sealing.{plainFrame}
@@ -60,15 +63,19 @@ pub record Stands (m : ℕ) (x : Held) (h : List Event) : Type 0 where
   pub rows : Rows m (x .lists .addrs) (x .lists .floors) (λ i a. counters a (heardIn h (slot i))) (λ i. names (heardIn h (slot i)))
   pub links : Links (x .board .links) (λ a. keyIn h (link a)) (λ a. counters a (heardIn h (link a)))
 
-pub stands-fresh : (m n own : ℕ) → n ≡ 2 * m → Stands m (start n own) []
+pub stands-fresh : (m n own k : ℕ) → n ≡ 2 * m → Stands m (start n own k) []
 unfolding make
-stands-fresh m n own e = rw e (choose P (noAddress own) _ _ (λ _. fresh-so 0) (λ _. fresh-so own))
+stands-fresh m n own k e = rw e (choose P (noAddress own) _ _ (λ _. fresh-so 0 0) (λ _. fresh-so own k))
   where
     P : Changed → Type 0
     P r = Stands m (held (r .board) (lists (zeroes (2 * m)) (zeroes (2 * m)))) []
 
-    fresh-so : (a : ℕ) → Stands m (held (fresh a) (lists (zeroes (2 * m)) (zeroes (2 * m)))) []
-    fresh-so a = record { slots = slots-fresh a; rows = rows-fresh m; links = links-fresh a }
+    fresh-so : (a j : ℕ) → Stands m (held (fresh a j) (lists (zeroes (2 * m)) (zeroes (2 * m)))) []
+    fresh-so a j = record { slots = slots-fresh a j; rows = rows-fresh m; links = links-fresh a j }
+
+-- whatever was before a cut
+stands-again : (m : ℕ) (x : Held) (h : List Event) → Stands m x [] → Stands m x (lost ∷ h)
+stands-again m x h w = record { slots = w .slots; rows = w .rows; links = w .links }
 
 -- a function of a choice
 pick-over : {A B : Type 0} (f : A → B) (t : Bool) (x y : A) → (if t then f x else f y) ≡ f (if t then x else y)
@@ -396,6 +403,17 @@ module _ (z : Settings) (m : ℕ) (x : Held) (h : List Event) (w : Stands m x h)
       go (onward a) = w
       go (halted n) = w
 
+  -- the mark is no part of what is told
+  pub stands-mark : (k : ℕ) → After (marked k)
+  unfolding moveMark
+  stands-mark k = choose P (eqb k (marks.nextMark (b .mark))) _ _ (λ _. moved) (λ _. w)
+    where
+      P : Changed → Type 0
+      P r = Ends (marked k) (byBoard x r)
+
+      moved : Stands m (held (withMark b k) (x .lists)) h
+      moved = record { slots = w .slots; rows = w .rows; links = w .links }
+
   -- ---- any call
 
   pub stands-step : (c : Call) → After c
@@ -411,10 +429,16 @@ module _ (z : Settings) (m : ℕ) (x : Held) (h : List Event) (w : Stands m x h)
   stands-step (looking Aps f g) = w
   stands-step (writing a c k r o) = stands-write a c k r o
   stands-step (routing f p) = stands-route f p
+  stands-step nextMark = w
+  stands-step (marked k) = stands-mark k
 
--- after any calls
-pub stands : (z : Settings) (n own : ℕ) → legal n ≡ true → (cs : List Call)
-    → Stands (n / 2) (run z n own cs) (story z (exchanges (replies z n own) cs))
-stands z n own fit [] = stands-fresh (n / 2) n own (legal-twice n fit)
-stands z n own fit (c ∷ cs) =
-    stands-step z (n / 2) (run z n own cs) (story z (exchanges (replies z n own) cs)) (stands z n own fit cs) c
+-- after any deeds
+pub stands : (z : Settings) (n own found : ℕ) → legal n ≡ true → (ds : List (Deed Call))
+    → Stands (n / 2) (run z n own found ds) (story z (log (replies z n own found) ds))
+stands z n own found fit [] = stands-fresh (n / 2) n own found (legal-twice n fit)
+stands z n own found fit (called c ∷ ds) =
+    stands-step z (n / 2) (run z n own found ds) (story z (log (replies z n own found) ds)) (stands z n own found fit ds) c
+stands z n own found fit (wrote m ∷ ds) = stands z n own found fit ds
+stands z n own found fit (cut ∷ ds) =
+    stands-again (n / 2) (start n own (stored found ds)) (story z (log (replies z n own found) ds))
+    (stands-fresh (n / 2) n own (stored found ds) (legal-twice n fit))

@@ -4,7 +4,7 @@
 use mathlib.Core.Path.{_≡_, refl, sym, _∙_}
 use mathlib.Core.Bool.{Bool, not}
 use mathlib.Core.List.{List}
-use Prim.Native.Nat.{ℕ, _+_}
+use Prim.Native.Nat.{ℕ, _+_, _<_}
 use native.Mathlib.Omega.{arith}
 use lib.Dec.{ltb}
 use lib.ListN.{length}
@@ -44,6 +44,7 @@ pub record Made (z : Settings) (l : Layer) (b : Board) (f o : List ℕ) (n : ℕ
   pub suited : Suited l named
   pub count : n ≡ length (sealedFrame z key l named (b .outgoing) (b .own) number f header)
   pub below : b .outgoing ≡ top → ⊥
+  pub marked : b .outgoing < b .mark
   pub out : p ≡ onto (sealedFrame z key l named (b .outgoing) (b .own) number f header) o
 
 module _ (z : Settings) (b : Board) (f o : List ℕ) (P : Framed → Type 0) (down : (n : ℕ) → P (framed (turnedDown n) b o)) where
@@ -59,6 +60,7 @@ module _ (z : Settings) (b : Board) (f o : List ℕ) (P : Framed → Type 0) (do
         suited = refl;
         count = refl;
         below = s .below;
+        marked = s .marked;
         out = refl;
       })
 
@@ -74,6 +76,7 @@ module _ (z : Settings) (b : Board) (f o : List ℕ) (P : Framed → Type 0) (do
         suited = suited-named k (s .identified);
         count = refl;
         below = s .below;
+        marked = s .marked;
         out = refl;
       })
 

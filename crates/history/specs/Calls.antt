@@ -1,12 +1,12 @@
--- Demand 3 is said "over any sequence of calls": the requests of document 01 and routing, of 02 (i) (RULES 11.1), with their arguments,
--- and what each answers.
+-- Demand 3 is said "over any sequence of calls" (RULES 11.1): the requests of document 01, routing, of 02 (i), and the two of a step, of
+-- 02 (vi), with their arguments, and what each answers.
 -- Assumes nothing.
 use mathlib.Core.Bool.{Bool, true, false}
-use mathlib.Core.List.{List, [], _∷_}
+use mathlib.Core.List.{List, []}
 use Prim.Native.Nat.{ℕ}
+use lib.Dec.{eqb}
 use lib.ListN.{take}
 use Rattle.octets.specs.Keys.{Key}
-use Rattle.octets.specs.Lists.{Octets}
 use Rattle.answers.specs.Numbers.{Told, done, refused, FrameTold, opened, sealed, written, turnedDown, ProtectionTold}
 use Rattle.frames.specs.declared.Layer.{Layer}
 use Rattle.commands.specs.declared.Command.{Command}
@@ -35,13 +35,19 @@ pub data Call : Type 0 where
   writing : Bool → Command → List ℕ → List ℕ → List ℕ → Call
   -- frame, its protection; the router looks at neither board nor lists
   routing : List ℕ → ProtectionTold → Call
+  -- the first request of a step: which mark is the next
+  nextMark : Call
+  -- the second: the mark that the store now holds
+  marked : ℕ → Call
 
--- what a call answers; one that writes a frame leaves an output too, and the router hands an inner frame on
+-- what a call answers; one that writes a frame leaves an output too, the router hands an inner frame on, and the first request of a
+-- step answers the next mark
 pub data Reply : Type 0 where
   answered : Told → Reply
   gave : FrameTold → List ℕ → Reply
   looked : Bool → Reply
   sentOn : RouteTold → List ℕ → Reply
+  nextIs : ℕ → Reply
 
 -- "A refusal returns its number and nothing else": every other reply is none, whatever it tells
 abbrev pub refuses : Reply → Bool
@@ -54,6 +60,7 @@ refuses (gave (turnedDown n) o) = true
 refuses (looked t) = false
 refuses (sentOn (onward a) s) = false
 refuses (sentOn (halted n) s) = true
+refuses (nextIs m) = false
 
 -- the frame that a reply hands out: of the output that it left, as many octets as it tells; of the router, the inner frame
 abbrev pub handedOut : Reply → List ℕ
@@ -65,19 +72,12 @@ handedOut (gave (turnedDown n) o) = []
 handedOut (looked t) = []
 handedOut (sentOn (onward a) s) = s
 handedOut (sentOn (halted n) s) = []
+handedOut (nextIs m) = []
 
--- a call with its reply; in every list of calls the last one stands first
+-- a call with its reply
 pub record Exchange : Type 0 where
   pub call : Call
   pub reply : Reply
-
--- a board, by what it replies to a call after those before it
-abbrev pub Replies : Type 0
-Replies = List Call → Call → Reply
-
-abbrev pub exchanges : Replies → List Call → List Exchange
-exchanges board [] = []
-exchanges board (c ∷ cs) = record { call = c; reply = board cs c } ∷ exchanges board cs
 
 -- the plain frame that a call hands in to be sealed
 abbrev pub toSeal : Call → List ℕ
@@ -91,8 +91,20 @@ toSeal (sealing l f a k o) = f
 toSeal (looking l f g) = []
 toSeal (writing a c k r o) = []
 toSeal (routing f p) = []
+toSeal nextMark = []
+toSeal (marked m) = []
 
--- what is handed in to be sealed is octets, as everything is that a program can hand in
-abbrev pub SealsOctets : List Call → Type 0
-SealsOctets [] = Octets []
-SealsOctets (c ∷ cs) = Octets (toSeal c) × SealsOctets cs
+-- a call that tells the board a mark tells it this one, m
+abbrev pub tells : Call → ℕ → Bool
+tells (install i n k) m = true
+tells (switch n) m = true
+tells (addLink a k) m = true
+tells (removeLink a) m = true
+tells (forget i a) m = true
+tells (opening l f g o) m = true
+tells (sealing l f a k o) m = true
+tells (looking l f g) m = true
+tells (writing a c k r o) m = true
+tells (routing f p) m = true
+tells nextMark m = true
+tells (marked n) m = eqb n m

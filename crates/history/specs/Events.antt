@@ -1,7 +1,8 @@
 -- Document 01, "The state and the lists" (RULES 11.2): "In demand 3 a key is one installation: a network slot as last replaced, or a
 -- link entry as last added, whichever identifier is used. A call that changes nothing installs nothing, and a sender is forgotten
 -- under the named slot's key only." What happened, and what is told by it: which key a slot or partner has, which frames were
--- opened under it since when, and which were sealed. Nothing here looks at a board or at the lent lists.
+-- opened under it since when, and which were sealed. A cut empties the first two and not the third: document 02 (vi), "Demand 3's first
+-- statement must now hold over any number of cuts. Its second starts afresh at a cut." Nothing here looks at a board or at the lent lists.
 -- Assumes nothing.
 use mathlib.Core.Bool.{Bool, true, false}
 use mathlib.Core.List.{List, [], _∷_}
@@ -44,12 +45,13 @@ pub record SentFrame : Type 0 where
   pub octets : List ℕ
 
 -- a holder has another key from now on, or none; a sender was forgotten there; a frame was opened under the key there; a frame
--- was sealed. In every list of events the last one stands first.
+-- was sealed; the board lost power, and with it all keys and all that it heard. In every list of events the last one stands first.
 pub data Event : Type 0 where
   keyed : Holder → Installation → Event
   forgot : Holder → ℕ → Event
   heard : Holder → HeardFrame → Event
   sent : SentFrame → Event
+  lost : Event
 
 abbrev pub same : Holder → Holder → Bool
 same (slot i) (slot j) = eqb i j
@@ -68,6 +70,7 @@ keyIn (keyed y k ∷ h) x = if same y x then k else keyIn h x
 keyIn (forgot y a ∷ h) x = keyIn h x
 keyIn (heard y r ∷ h) x = keyIn h x
 keyIn (sent s ∷ h) x = keyIn h x
+keyIn (lost ∷ h) x = none
 
 abbrev pub numbered : Installation → ℕ → Bool
 numbered none n = false
@@ -106,6 +109,7 @@ heardIn (keyed y k ∷ h) x = if same y x then [] else heardIn h x
 heardIn (forgot y a ∷ h) x = if same y x then without a (heardIn h x) else heardIn h x
 heardIn (heard y r ∷ h) x = if same y x then r ∷ heardIn h x else heardIn h x
 heardIn (sent s ∷ h) x = heardIn h x
+heardIn (lost ∷ h) x = []
 
 -- whether one of them was sender a's, and how many senders they have
 abbrev pub isFrom : ℕ → List HeardFrame → Bool
@@ -124,3 +128,4 @@ sentIn (keyed y k ∷ h) = sentIn h
 sentIn (forgot y a ∷ h) = sentIn h
 sentIn (heard y r ∷ h) = sentIn h
 sentIn (sent s ∷ h) = s ∷ sentIn h
+sentIn (lost ∷ h) = sentIn h

@@ -1,4 +1,5 @@
 pub mod Calls
+pub mod Deeds
 pub mod Events
 pub mod Story
 pub mod Statement

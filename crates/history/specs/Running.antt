@@ -1,5 +1,5 @@
 -- Our board (RULES 11.1): "over any sequence of calls from a fresh state, each handed what the last one left", by the very definitions
--- that the contracts cite.
+-- that the contracts cite; and document 02 (vi): "After a cut at any moment, the board starts, otherwise fresh, at the mark it finds".
 -- Assumes nothing.
 use mathlib.Core.Path.{_≡_}
 use mathlib.Core.Bool.{true}
@@ -7,7 +7,9 @@ use mathlib.Core.List.{List, [], _∷_}
 use Prim.Native.Nat.{ℕ, _/_, _^_, _<_}
 use lib.ListN.{replicate}
 use Rattle.settings.specs.Settings.{Settings, ours}
-use Rattle.history.specs.Calls.{Call, install, switch, addLink, removeLink, forget, opening, sealing, looking, writing, routing, Reply, answered, gave, looked, sentOn, Replies}
+use Rattle.history.specs.Calls.{Call, install, switch, addLink, removeLink, forget, opening, sealing, looking, writing, routing, nextMark, marked}
+use Rattle.history.specs.Calls.{Reply, answered, gave, looked, sentOn, nextIs}
+use Rattle.history.specs.Deeds.{Deed, called, wrote, cut, Replies, stored}
 use Rattle.history.specs.Statement.{First, Second}
 use Rattle.answers.specs.Numbers.{done}
 use Rattle.frames.specs.declared.Layer.the-variants.{Network, Aps}
@@ -16,6 +18,7 @@ use Rattle.board.specs.Requests.{Left, Changed, Freed}
 use Rattle.board.specs.Rows.{Lists, lists, legal}
 use Rattle.board.specs.Sending.{Framed}
 use Rattle.board.specs.Requests as requests
+use Rattle.board.specs.Mark as marks
 use Rattle.network.specs.Opening as network
 use Rattle.network.specs.Sealing as networkSeals
 use Rattle.aps.specs.Opening as aps
@@ -70,28 +73,33 @@ step z (looking Network f g) x = to (looked (network.lookNetwork z (x .board) f)
 step z (looking Aps f g) x = to (looked (aps.lookAps z (x .board) f g)) x
 step z (writing a c k r o) x = byFrame x (commands.writeCommand z (x .board) a c k r o)
 step z (routing f p) x = to (sentOn (router.route z f p) (router.handedOn z Whole f p)) x
+step z nextMark x = to (nextIs (marks.nextMark (x .board .mark))) x
+step z (marked m) x = byBoard x (marks.moveMark (x .board) m)
 
--- a fresh state with fresh lists of n rows, and what calls leave of it
-abbrev pub start : ℕ → ℕ → Held
-start n own = held (requests.make own .board) (lists (replicate n 0) (replicate n 0))
+-- a fresh state that finds the mark m, with fresh lists of n rows
+abbrev pub start : ℕ → ℕ → ℕ → Held
+start n own m = held (requests.make own m .board) (lists (replicate n 0) (replicate n 0))
 
-abbrev pub run : Settings → ℕ → ℕ → List Call → Held
-run z n own [] = start n own
-run z n own (c ∷ cs) = step z c (run z n own cs) .after
+-- what deeds leave of it, the store having held `found` at first; a cut leaves a fresh state, at what the store then holds
+abbrev pub run : Settings → ℕ → ℕ → ℕ → List (Deed Call) → Held
+run z n own found [] = start n own found
+run z n own found (called c ∷ ds) = step z c (run z n own found ds) .after
+run z n own found (wrote m ∷ ds) = run z n own found ds
+run z n own found (cut ∷ ds) = start n own (stored found ds)
 
-abbrev pub replies : Settings → ℕ → ℕ → Replies
-replies z n own cs c = step z c (run z n own cs) .reply
+abbrev pub replies : Settings → ℕ → ℕ → ℕ → Replies
+replies z n own found ds c = step z c (run z n own found ds) .reply
 
 -- ---- demand 3, of our board: over any settings, "over lists of one length" (document 02 (iii)), which may be any that is legal and
--- of which half is the room, and of every own address for which a state is made
+-- of which half is the room, of every own address for which a state is made, and of any mark in the store, "0 on a new board"
 
 abbrev pub Demand3 : Type 0
 Demand3 =
-    (z : Settings) (n own : ℕ) → legal n ≡ true → own < 2 ^ 64 → requests.make own .answer ≡ done
-    → First z (replies z n own) × Second z (n / 2) (replies z n own)
+    (z : Settings) (n own found : ℕ) → legal n ≡ true → own < 2 ^ 64 → found < 2 ^ 32 → requests.make own found .answer ≡ done
+    → First z found (replies z n own found) × Second z (n / 2) (replies z n own found)
 
 -- the same of the routines: the contracts are at our settings
 abbrev pub OurDemand3 : Type 0
 OurDemand3 =
-    (n own : ℕ) → legal n ≡ true → own < 2 ^ 64 → requests.make own .answer ≡ done
-    → First ours (replies ours n own) × Second ours (n / 2) (replies ours n own)
+    (n own found : ℕ) → legal n ≡ true → own < 2 ^ 64 → found < 2 ^ 32 → requests.make own found .answer ≡ done
+    → First ours found (replies ours n own found) × Second ours (n / 2) (replies ours n own found)

@@ -1,4 +1,4 @@
--- Demand 3 (RULES 11.6, 11.7), of any board, by its replies to any calls. "No two sealed frames carry the same outgoing counter." "A
+-- Demand 3 (RULES 11.6, 11.7), of any board, by its replies to any calls, over any cuts. "No two sealed frames carry the same outgoing counter." "A
 -- secured frame is opened exactly when 01's checks of lengths, form, key, tag and room pass and its counter is below 4,294,967,295 and
 -- above every counter opened before from that sender under that key since the key was installed or the sender forgotten."
 -- Assumes nothing.
@@ -12,7 +12,8 @@ use Rattle.settings.specs.Settings.{Settings, longest, longestAps, top}
 use Rattle.octets.specs.Choice.{if_then_else_, both}
 use Rattle.octets.specs.Keys.{Key}
 use Rattle.octets.specs.Lists.{Octets}
-use Rattle.history.specs.Calls.{Call, opening, Reply, answered, gave, looked, sentOn, refuses, Replies, exchanges, SealsOctets}
+use Rattle.history.specs.Calls.{Call, opening, Reply, answered, gave, looked, sentOn, nextIs, refuses}
+use Rattle.history.specs.Deeds.{Deed, Replies, log, SealsOctets, writesAnswered, tellsStored}
 use Rattle.history.specs.Events.{Holder, slot, link, nowhere, Installation, none, key, HeardFrame, SentFrame, Event, keyIn, holderFor, heardIn, isFrom, senders, sentIn}
 use Rattle.history.specs.Story.{story}
 use Rattle.answers.specs.Numbers.{clear, under}
@@ -25,7 +26,7 @@ use Rattle.frames.specs.Reading.{Reading, refused, plain, secured, reading}
 use Rattle.seals.specs.Sealing.{genuine}
 use Rattle.aps.specs.Keys.{keyFor}
 
--- ---- the first statement: the counters rise from each sealed frame to the next
+-- ---- the first statement: the counters rise from each sealed frame to the next, "over any number of cuts"
 
 -- as receivers read them, who give no sender
 abbrev pub readings : Settings → List SentFrame → List Reading
@@ -45,8 +46,11 @@ rising (secured s ∷ rs) = both (lower rs (s .counter)) (rising rs)
 rising (plain k ∷ rs) = false
 rising (refused k ∷ rs) = false
 
-abbrev pub First : Settings → Replies → Type 0
-First z board = (cs : List Call) → SealsOctets cs → rising (readings z (sentIn (story z (exchanges board cs)))) ≡ true
+-- where the store held `found` at first
+abbrev pub First : Settings → ℕ → Replies → Type 0
+First z found board =
+    (ds : List (Deed Call)) → SealsOctets ds → writesAnswered (log board ds) ≡ true → tellsStored found (log board ds) ≡ true
+    → rising (readings z (sentIn (story z (log board ds)))) ≡ true
 
 -- ---- the second statement, with room for m senders under a slot's key: "01's 32 reads half the length" (document 02 (iii))
 
@@ -100,6 +104,7 @@ tellsKey (gave (written n) o) = false
 tellsKey (gave (turnedDown n) o) = false
 tellsKey (looked t) = false
 tellsKey (sentOn t s) = false
+tellsKey (nextIs m) = false
 
 -- A secured frame, and one that reading refuses, is opened, which is any reply but a refusal, exactly when the checks pass (t).
 -- Of an unsecured one the reply tells no key.
@@ -108,8 +113,8 @@ Rightly (secured s) r t = not (refuses r) ≡ t
 Rightly (refused n) r t = not (refuses r) ≡ t
 Rightly (plain n) r t = tellsKey r ≡ false
 
--- of a frame of octets, after any calls
+-- of a frame of octets, after any deeds, whatever the host writes and tells
 abbrev pub Second : Settings → ℕ → Replies → Type 0
 Second z m board =
-    (cs : List Call) (l : Layer) (f : List ℕ) (g : ℕ) (o : List ℕ) → Octets f
-    → Rightly (reading z l f g) (board cs (opening l f g o)) (passes z m (story z (exchanges board cs)) l f g o)
+    (ds : List (Deed Call)) (l : Layer) (f : List ℕ) (g : ℕ) (o : List ℕ) → Octets f
+    → Rightly (reading z l f g) (board ds (opening l f g o)) (passes z m (story z (log board ds)) l f g o)

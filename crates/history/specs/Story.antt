@@ -1,12 +1,13 @@
--- The story that calls and their replies tell (RULES 11.3). It is read off the calls and what was replied, the frames handed out with
--- it, and never off a board.
+-- The story that the log tells (RULES 11.3). It is read off the calls and what was replied, the frames handed out with it, and the cuts,
+-- and never off a board.
 -- Assumes nothing.
 use mathlib.Core.List.{List, [], _∷_, _++_}
 use Prim.Native.Nat.{ℕ}
 use Rattle.settings.specs.Settings.{Settings}
 use Rattle.octets.specs.Choice.{if_then_else_}
-use Rattle.history.specs.Calls.{Call, install, switch, addLink, removeLink, forget, opening, sealing, looking, writing, routing, Reply, refuses, handedOut, Exchange}
-use Rattle.history.specs.Events.{Holder, slot, link, Installation, none, key, Event, keyed, forgot, heard, sent, keyIn, sameKey, holderFor}
+use Rattle.history.specs.Calls.{Call, install, switch, addLink, removeLink, forget, opening, sealing, looking, writing, routing, nextMark, marked, Reply, refuses, handedOut, Exchange}
+use Rattle.history.specs.Deeds.{Deed, called, wrote, cut}
+use Rattle.history.specs.Events.{Holder, slot, link, Installation, none, key, Event, keyed, forgot, heard, sent, lost, keyIn, sameKey, holderFor}
 use Rattle.frames.specs.declared.Layer.{Layer}
 use Rattle.frames.specs.Reading.{Reading, refused, plain, secured, reading}
 
@@ -34,11 +35,15 @@ telling z h (sealing l f a k o) p = sent (record { layer = l; plain = f; octets 
 telling z h (looking l f g) p = []
 telling z h (writing a c k r o) p = []
 telling z h (routing f q) p = []
+telling z h nextMark p = []
+telling z h (marked m) p = []
 
 -- what a call and its reply tell, after the events h
 abbrev pub eventsOf : Settings → List Event → Call → Reply → List Event
 eventsOf z h c r = if refuses r then [] else telling z h c (handedOut r)
 
-abbrev pub story : Settings → List Exchange → List Event
+abbrev pub story : Settings → List (Deed Exchange) → List Event
 story z [] = []
-story z (x ∷ xs) = eventsOf z (story z xs) (x .call) (x .reply) ++ story z xs
+story z (called x ∷ ds) = eventsOf z (story z ds) (x .call) (x .reply) ++ story z ds
+story z (wrote m ∷ ds) = story z ds
+story z (cut ∷ ds) = lost ∷ story z ds

@@ -10,17 +10,23 @@ pub struct Lists {
     pub floors: [u32; 1026],
 }
 
-// The fields are set directly: requests would take 255 commands to bring the APS counter to where
-// it wraps.
+// One frame can be sealed, and no more.
 pub(crate) fn made_board() -> Board {
-    let fresh = board::make(2);
+    board_at(7, 8)
+}
+
+// The fields are set directly: requests would take 255 commands to bring the APS counter to where
+// it wraps, and none brings the outgoing counter above the mark.
+pub(crate) fn board_at(outgoing: u32, mark: u32) -> Board {
+    let fresh = board::make(2, 0);
     let b = fresh.board;
     let mut links = b.links;
     links[0] = link(0xa1, key_from(0x20), 100);
     links[1] = link(0xa2, key_from(0x30), 0);
     Board {
         own: b.own,
-        outgoing: 7,
+        outgoing,
+        mark,
         aps: 255,
         slots: [slot(5, key_from(0x00)), slot(6, key_from(0x10))],
         active: Active::Slot(0),

@@ -17,12 +17,12 @@ use router::Portion;
 pub(crate) fn answer_to(long: bool, line: &[u8]) -> Answer {
     let w = text::which(
         b"open\topenaps\tseal\tsealaps\tremove\ttunnel\tdown\thash\tkeyedhash\tkey\tdigest\tinner\ttlvs\t\
-        value\theader\tauxiliary\tpayload\ttag\thall\tprint\tlabel",
+        value\theader\tauxiliary\tpayload\ttag\thall\tprint\tlabel\tsealat\tsealapsat",
         text::field(line, 0),
     );
     let form = text::field(
         b".SG\t.SAG\t.SG\t.SABG\t.SA\t.SAG\t.SG\t.G\t.G\t.TG\t.TG\t.TG\t.TG\t\
-        .TBG\t.TG\t.TG\t.TG\t.TG\t.SSSG\t.SG\t.G",
+        .TBG\t.TG\t.TG\t.TG\t.TG\t.SSSG\t.SG\t.G\t.SCCG\t.SCCABG",
         w,
     );
     let x = fields_of(line, form);
@@ -56,6 +56,8 @@ fn answer_well(w: usize, x: Fields) -> Answer {
         17 => parts::portion(v[1], f, Portion::Tag),
         18 => opening::hall(v[1], v[2], v[3], f),
         19 => label_lines::print(v[1], f),
-        _ => label_lines::label(f),
+        20 => label_lines::label(f),
+        21 => sealing::seal_at(v[1], v[2], v[3], f),
+        _ => sealing::seal_aps_at(v, f),
     }
 }

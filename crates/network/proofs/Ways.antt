@@ -3,7 +3,7 @@
 use mathlib.Core.Path.{_≡_, refl}
 use mathlib.Core.Bool.{true, not}
 use mathlib.Core.List.{List}
-use Prim.Native.Nat.{ℕ, _+_, _≤_}
+use Prim.Native.Nat.{ℕ, _+_, _<_, _≤_}
 use lib.Dec.{eqb, leb, ltb}
 use lib.ListN.{length}
 use borrow.Author.Tests.{ltb-false, leb-true}
@@ -80,7 +80,7 @@ module _ (z : Settings) (b : Board) (f : List ℕ) (w : Lent) where
 
 module _ (z : Settings) (b : Board) (f : List ℕ) where
   -- a plain frame that passed every check: the slot that is active is one of the two and present, the header's length, and a
-  -- counter that is not the top
+  -- counter that is not the top and is below the mark
   pub record Sealing : Type 0 where
     pub slot : ℕ
     pub active : b .active ≡ actives.Slot slot
@@ -90,6 +90,7 @@ module _ (z : Settings) (b : Board) (f : List ℕ) where
     pub unsecured : readingPlain Network f ≡ headed header
     pub short : length f ≤ longestPlain z
     pub below : b .outgoing ≡ top → ⊥
+    pub marked : b .outgoing < b .mark
 
   -- the frame that it makes: under that slot's key, with that slot's sequence number
   abbrev pub frameSent : Sealing → List ℕ
@@ -114,7 +115,7 @@ module _ (z : Settings) (b : Board) (f : List ℕ) where
           choose P (both (leb i 1) (slotAt (b .slots) i .present)) _ _
           (λ t. let w = both-parts (leb i 1) (slotAt (b .slots) i .present) t in
           by-sending P b _ o down
-          λ d. made
+          λ d u. made
           (record {
             slot = i;
             active = a;
@@ -124,6 +125,7 @@ module _ (z : Settings) (b : Board) (f : List ℕ) where
             unsecured = e;
             short = k;
             below = d;
+            marked = u;
           }))
           (λ _. down 6)
 

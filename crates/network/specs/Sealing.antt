@@ -1,6 +1,6 @@
 -- Document 01, "Opening and sealing" (RULES 8.2): sealing a network frame. "Sealing takes a plain frame: a network frame uses the
 -- active key. It writes the secured frame likewise, answers the length, and raises the outgoing counter by 1." "Sealing: 1, 2, 3,
--- 4, 3, 14, 6, 7."
+-- 4, 3, 14, 6, 7", and document 02 (vi): 17, "judged after 7".
 -- Assumes nothing.
 use mathlib.Core.List.{List}
 use Prim.Native.Nat.{ℕ}
@@ -24,7 +24,7 @@ use Rattle.board.specs.declared.Active.the-variants as actives
 abbrev pub identifier : ℕ
 identifier = 1
 
--- 7 (send), and the frame under the key of a present slot
+-- 7, 17 (send), and the frame under the key of a present slot
 unfoldable pub sealedUnder : Settings → Board → List ℕ → List ℕ → ℕ → Slot → Framed
 sealedUnder z b f o h s =
     send b (sealedFrame z (theKey (s .key)) Network identifier (b .outgoing) (b .own) (s .seq) f h) o

@@ -24,6 +24,10 @@ apsAux = 13
 abbrev pub top : ℕ
 top = 4294967295
 
+-- Document 02 (vi): "it is moved ahead in steps of 1,024"
+abbrev pub markStep : ℕ
+markStep = 1024
+
 -- Document 02 (iii): "Let the two lists have any equal, even length from 2 to 1,024"
 abbrev pub shortestList : ℕ
 shortestList = 2

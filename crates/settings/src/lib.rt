@@ -29,3 +29,6 @@ pub const LONGEST_LIST: usize = 1024;
 
 // The counter that is neither sent nor accepted.
 pub const TOP: u32 = 4294967295;
+
+// How far a step moves the mark ahead, where so much is left up to the top.
+pub const MARK_STEP: u32 = 1024;

@@ -23,7 +23,7 @@ pub struct Reply {
 
 // Before the first board there is the one that a refusal leaves, which no line can reach.
 pub(crate) fn fresh_desk() -> Desk {
-    let none = board::make(0);
+    let none = board::make(0, 0);
     let b = none.board;
     Desk {
         ready: false,

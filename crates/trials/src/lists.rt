@@ -13,7 +13,7 @@ use lines::refused;
 
 // A refused board is not taken: the old one stays.
 pub(crate) fn make(own: u64, desk: Desk) -> Reply {
-    let made = board::make(own);
+    let made = board::make(own, 0);
     let outcome = made.answer;
     let b = made.board;
     match outcome {

@@ -1,5 +1,5 @@
-// Slots, link entries, rows and the active mark, set as they are told, past every rule of the
-// requests.
+// Slots, link entries, rows, the active slot and the mark, set as they are told, past every rule of
+// the requests.
 use crate::desk::Desk;
 use crate::desk::Reply;
 use crate::desk::reply_bad;
@@ -86,6 +86,7 @@ fn active_put(b: Board, i: u8) -> Board {
     Board {
         own: b.own,
         outgoing: b.outgoing,
+        mark: b.mark,
         aps: b.aps,
         slots,
         active: active_of(i),
@@ -99,4 +100,15 @@ fn active_of(i: u8) -> Active {
         return Active::Nobody;
     }
     Active::Slot(i as usize)
+}
+
+pub(crate) fn set_mark(mark: u64, desk: Desk) -> Reply {
+    let b = desk.board;
+    reply_done(with_board(desk, mark_put(b, counter(mark))))
+}
+
+fn mark_put(b: Board, mark: u32) -> Board {
+    let mut next = b;
+    next.mark = mark;
+    next
 }

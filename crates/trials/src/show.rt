@@ -14,14 +14,18 @@ use lines::word;
 pub(crate) fn counters(b: Board) -> Answer {
     let own = address(done(), b.own);
     let outgoing = decimal(own, b.outgoing as u64);
-    decimal(outgoing, b.aps as u64)
+    decimal(decimal(outgoing, b.aps as u64), b.mark as u64)
+}
+
+pub(crate) fn next_mark(b: Board) -> Answer {
+    decimal(done(), board::next_mark(b) as u64)
 }
 
 pub(crate) fn slots(b: Board) -> Answer {
     let first = b.slots[0];
     let second = b.slots[1];
-    let mark = b.active;
-    active(slot(slot(done(), first), second), mark)
+    let which = b.active;
+    active(slot(slot(done(), first), second), which)
 }
 
 fn slot(a: Answer, s: Slot) -> Answer {
@@ -31,8 +35,8 @@ fn slot(a: Answer, s: Slot) -> Answer {
     hex(number, &key)
 }
 
-fn active(a: Answer, mark: Active) -> Answer {
-    match mark {
+fn active(a: Answer, which: Active) -> Answer {
+    match which {
         Active::Nobody => word(a, b"-"),
         Active::Slot(i) => decimal(a, i as u64),
     }
