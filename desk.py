@@ -4,6 +4,7 @@
         --label "83 FE D3 40 7A 93 97 23 A5 C6 39 B2 69 16 D5 05 C3 B5"
     python3 desk.py examples/first-lesson.bench
     python3 desk.py                              # lines from the keyboard or a pipe
+    python3 desk.py --store mark.txt             # the same, and the mark outlives the plug
 
 A capture (pcap or pcapng, gzip or not) gives a log with one line for each frame, docs/CAPTURE.md; a
 script is shown line by line with the answers, docs/BENCH.md. Where the bench is not built yet, it
@@ -15,17 +16,20 @@ import os
 import shutil
 import subprocess
 import sys
-from contextlib import closing
+from contextlib import closing, nullcontext
+from functools import partial
 
 from bench_pipe import (BENCH_HELP, PROGRAM, ROOT, Bench, Differs, bench_words, give_up, in_words,
                         readable)
 from capture import files, keys, show
+from store import Host, NoStore, Store
 
 MODEL = [sys.executable, str(ROOT / "independent"), "bench", "--answer"]
 NO_KIT = ("rt is not found: put the Rattle kit on the path, or add --model, which runs the "
           "reference in plain Python; its verdicts are not the proved ones.")
 CAPTURE_NAMES = (".pcap", ".pcapng", ".cap", ".gz")
 READER_GONE = 141  # the exit code where whoever read what is printed has gone
+WITH_STORE = "# The host's lines are sent too: an answer's number counts the lines that were sent."
 
 
 # ---- the bench ---------------------------------------------------------------------------------
@@ -56,26 +60,37 @@ def words_of(given):
 
 # ---- a script ----------------------------------------------------------------------------------
 
-def play(lines, bench, echo):
-    """Sends each line as it comes and prints its answer; comments and empty lines have none."""
+def send(bench, line):
+    """Sends a line and prints its answer; comments and empty lines have none."""
+    answer = bench.answer_to(line)
+    if answer is not None:
+        print("    " + readable(answer), flush=True)
+    return answer
+
+
+def play(lines, take, echo):
+    """Hands on each line as it comes."""
     for line in lines:
         line = line.removesuffix(b"\n")
         if echo:
             print(readable(line))
-        answer = bench.answer_to(line)
-        if answer is not None:
-            print("    " + readable(answer), flush=True)
+        take(line)
 
 
 def run_script(given):
-    """Plays a script; the exit code."""
+    """Plays a script; the exit code. A store that can't be used is said before a bench is built."""
     source = sys.stdin.buffer if given.file is None else open(given.file, "rb")
-    with source:
+    held = nullcontext() if given.store is None else closing(Store(given.store))
+    with source, held as store:
         words, whose = words_of(given)
         if given.model:
             print(f"# {whose}", flush=True)
         with closing(Bench(words)) as bench:
-            play(source, bench, given.file is not None or not sys.stdin.isatty())
+            take = partial(send, bench)
+            if store is not None:
+                print(WITH_STORE, flush=True)
+                take = Host(store, take).take
+            play(source, take, given.file is not None or not sys.stdin.isatty())
     return 0
 
 
@@ -122,6 +137,8 @@ def arguments():
     add("--frames", action="store_true", help="print only the network frames, as frame<TAB>hex")
     add("--chip-checksum", action="store_true", help="the sniffer's chip wrote signal strength and"
         " its own verdict over the checksums (as TI's CC24xx do)")
+    add("--store", metavar="FILE", help="be the host of a script's board: keep its mark there, so"
+        " that no counter comes twice, whenever the plug is pulled")
     source = parser.add_mutually_exclusive_group()
     source.add_argument("--model", action="store_true",
                         help="ask the reference in plain Python: no kit, and nothing proved")
@@ -129,6 +146,8 @@ def arguments():
     given = parser.parse_args()
     if given.file is None and asks_for_capture(given):
         parser.error("which capture? Name its file")
+    if given.store is not None and asks_for_capture(given):
+        parser.error("--store is for a board that seals: a script or the keyboard, and no capture")
     return given
 
 
@@ -138,7 +157,7 @@ def main():
     given = arguments()
     try:
         return run_capture(given) if asks_for_capture(given) else run_script(given)
-    except (files.NoCapture, keys.NoLabel, Differs) as fault:
+    except (files.NoCapture, keys.NoLabel, NoStore, Differs) as fault:
         give_up(str(fault))
     except BrokenPipeError:
         os.dup2(os.open(os.devnull, os.O_WRONLY), sys.stdout.fileno())

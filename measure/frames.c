@@ -18,7 +18,7 @@
 
 enum { HEADER = 8, AUXILIARY = 14, PLAIN = 98, SECURED = 116, ROOM = 136, LONGEST = 1024, MOST = LONGEST + 2, JOBS = 8 };
 
-struct rust_board { uint64_t own; uint32_t outgoing; }; /* and more, that Rust alone knows */
+struct rust_board { uint64_t own; uint32_t outgoing, mark; }; /* and more, that Rust alone knows */
 struct told { uint64_t sender; int64_t protection; };    /* of an opened frame; -1 is no protection */
 
 /* The sender's row: in the middle of 32, in turns of slot 0 and 1; with the longest lists 0, 511 and 1023, and 511 for a new
@@ -255,9 +255,12 @@ static void refusals(struct job j) {
     must(opening(&j, j.secured, SECURED) == -8 && changed(&j, SECURED - 1, 1, 1) == -8, "8");
     for (size_t r = 0; r < j.rows; r++) j.addresses[r] = r + 1;
     must(opening(&j, j.secured, SECURED) == -10 && changed(&j, SECURED - 1, 1, 1) == -9, "10");
+    j.board.mark = j.rust->mark = j.counter;
+    must(sealing(&j, j.plain, PLAIN) == -17, "17, at the mark");
     j.counter = UINT32_MAX;
-    must(sealing(&j, j.plain, PLAIN) == -7, "7 to seal");
-    board__state__make(&fresh, j.board.own), j.board = fresh.board;
+    must(sealing(&j, j.plain, PLAIN) == -7, "7 to seal, before 17");
+    j.rust->mark = UINT32_MAX; /* which the job's own board has too */
+    board__state__make(&fresh, j.board.own, 0), j.board = fresh.board;
     j.rust = rust_board(j.board.own, sequences, keys, 2); /* there is no slot 2 to be active */
     must(sealing(&j, j.plain, PLAIN) == -6, "6 to seal");
 }
@@ -316,11 +319,12 @@ static void make(struct job *j, size_t i, size_t rows, size_t row, int new) {
     struct after a;
     lent addresses = SLICE(j->addresses, rows), floors = SLICE(j->floors, rows);
     for (int k = 0; k < 16; k++) keys[0][k] = 16 * i + k, keys[1][k] = ~keys[0][k];
-    board__state__make(&a, own), j->board = a.board;
+    board__state__make(&a, own, 0), j->board = a.board;
     for (size_t s = 0; s < 2; s++)
         board__keys__install(&a, &j->board, addresses, floors, s, sequences[s], keys[s]), j->board = a.board;
     board__keys__switch(&a, &j->board, sequences[slot]), j->board = a.board;
     j->rust = rust_board(own, sequences, keys, slot);
+    j->board.mark = j->rust->mark = UINT32_MAX;
     j->counter = 1000003 * i;
     j->rows = rows;
     j->row = row;

@@ -24,11 +24,12 @@ struct NetworkKey {
     octets: [u8; 16],
 }
 
-// (2.1) C knows the first two fields.
+// (2.1) C knows the first three fields.
 #[repr(C)]
 pub struct Board {
     own: u64,
     outgoing: u32,
+    mark: u32,
     slots: [Option<NetworkKey>; 2],
     active: Option<usize>,
 }
@@ -161,6 +162,9 @@ fn seal_frame<C: Cipher>(
     if board.outgoing == TOP {
         return Err(Refusal::Top);
     }
+    if board.outgoing >= board.mark {
+        return Err(Refusal::Mark);
+    }
     let auxiliary = Auxiliary {
         control: WORKED_WITH,
         counter: board.outgoing,
@@ -280,6 +284,7 @@ pub extern "C" fn rust_board(
     Box::leak(Box::new(Board {
         own,
         outgoing: 0,
+        mark: 0,
         slots: [key(0), key(1)],
         active: Some(active),
     }))

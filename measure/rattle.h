@@ -26,7 +26,7 @@ struct active { u8 is_slot; size_t slot; };
 struct place { u8 absent; size_t at; };
 struct board {
     uint64_t own;
-    uint32_t outgoing;
+    uint32_t outgoing, mark;
     u8 aps;
     struct slot slots[2];
     struct active active;
@@ -43,7 +43,9 @@ ccm_routine cipher__seal, cipher__unseal;
 void cipher__keyed_hash(struct hashed *, const u8 *key, lent d);
 
 /* ---- board */
-void board__state__make(struct after *, uint64_t own);
+void board__state__make(struct after *, uint64_t own, uint32_t found);
+uint32_t board__mark__next_mark(const struct board *);
+void board__mark__move_mark(struct after *, const struct board *, uint32_t stored);
 void board__keys__install(struct after *, const struct board *, lent addresses, lent floors, size_t slot, u8 sequence,
                           const u8 *key);
 void board__keys__switch(struct after *, const struct board *, u8 sequence);

@@ -39,6 +39,7 @@ enum Refusal {
     Forged = 9,
     Full = 10,
     Argument = 14,
+    Mark = 17,
 }
 
 fn number(made: Result<usize, Refusal>) -> i64 {

@@ -142,10 +142,11 @@ speed() { # HARNESS: time, instructions and stack of its calls
 }
 
 # ---- what is compiled
-calls='board::state::make board::keys::install board::keys::switch board::partners::add_link board::partners::remove_link
-    board::rows::forget commands::writer::write_command commands::reader::read_command network::opening::open_frame
-    network::sealing::seal_frame network::looking::look_frame aps::opening::open_frame aps::sealing::seal_frame
-    aps::looking::look_frame router::routing::route router::routing::portion_of'
+calls='board::state::make board::mark::next_mark board::mark::move_mark board::keys::install board::keys::switch
+    board::partners::add_link board::partners::remove_link board::rows::forget commands::writer::write_command
+    commands::reader::read_command network::opening::open_frame network::sealing::seal_frame network::looking::look_frame
+    aps::opening::open_frame aps::sealing::seal_frame aps::looking::look_frame router::routing::route
+    router::routing::portion_of'
 labels='labels::reading::read_label labels::printing::print_label' # no earlier revision need have them
 module now vectors '' 'cipher::seal cipher::unseal cipher::keyed_hash'
 module now small '' "$calls $labels board::rows::find_row"

@@ -1,7 +1,7 @@
 /* What each of the board's calls takes of the stack, at full frames: sealing and opening at both layers (APS under key
-   identifier 3, with its keyed hash), looking, the requests that change keys, a command written and read, a tunnel
-   routed, a label read and printed; with the longest lists, in which 511 others stand before the sender. And the memory that a board with such lists
-   asks for. */
+   identifier 3, with its keyed hash), looking, the requests that change keys, a step of the mark, a command written and read,
+   a tunnel routed, a label read and printed; with the longest lists, in which 511 others stand before the sender. And the
+   memory that a board with such lists asks for. */
 #define _GNU_SOURCE
 #include "cases.h"
 #include "rattle.h"
@@ -55,7 +55,9 @@ CALL(route, DONE(router__routing__route(answer.octets, SLICE(tunnel, TUNNEL), ze
 CALL(portion, DONE(router__routing__portion_of(&handed, SLICE(tunnel, TUNNEL), zeros, zeros)))
 CALL(read_label, DONE(labels__reading__read_label(&answer.label, SLICE(text, sizeof text - 1))))
 CALL(print_label, DONE(labels__printing__print_label(&answer.answer, SLICE(code, 16), &o)))
-CALL(make, DONE(board__state__make(&answer.after, OWN)))
+CALL(make, DONE(board__state__make(&answer.after, OWN, 0)))
+CALL(next_mark, board__mark__next_mark(&board))
+CALL(move_mark, DONE(board__mark__move_mark(&answer.after, &board, 1024)))
 CALL(forget, (addresses[OTHER_LAST] = 6, DONE(board__rows__forget(&answer.outcome, &a, &f, 1, 6))))
 
 static void keep(void) {
@@ -64,7 +66,9 @@ static void keep(void) {
 }
 /* A board with a network key and itself as its partner, and a full frame of each layer, which must open again. */
 static void setup(void) {
-    board__state__make(&answer.after, OWN); keep();
+    board__state__make(&answer.after, OWN, 0); keep();
+    must(next_mark_rattle() == 1024, "the next mark");
+    move_mark_rattle(); keep();
     board__keys__install(&answer.after, &board, &a, &f, 0, 5, key); keep();
     board__keys__switch(&answer.after, &board, 5); keep();
     board__partners__add_link(&answer.after, &board, OWN, key); keep();
@@ -120,6 +124,7 @@ static const struct measured calls[] = {
     ALONE(open_network), ALONE(open_full), ALONE(open_aps), ALONE(seal_network), ALONE(seal_aps), ALONE(look_network),
     ALONE(look_aps), ALONE(add_link), ALONE(write_command), ALONE(install), ALONE(remove_link), ALONE(switch_key),
     ALONE(read_command), ALONE(route), ALONE(portion), ALONE(read_label), ALONE(print_label), ALONE(make), ALONE(forget),
+    ALONE(next_mark), ALONE(move_mark),
 };
 int main(int argc, char **argv) {
     int code;

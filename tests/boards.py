@@ -34,6 +34,13 @@ class Board(Bench):
         super().__init__(words, name, log)
         self.address, self.short = address, short
         self.sequence = self.sealed = self.written = self.data = 0
+        self.mark = None
+
+    def start(self):
+        """Makes the board, a new one, and moves its mark by a step, enough for all seals here."""
+        self.ok("board", self.address)
+        self.mark, = self.so_many(1, "mark")
+        self.ok("marked", self.mark)
 
     def number(self):
         """The next sequence number of the network layer, which the board leaves to its host."""
@@ -149,7 +156,7 @@ def set_up_joining(centre, router, joiner):
     """The router is in the centre's network and has a link key of its own; the joiner has only the
     link key that it shares with the centre."""
     for board in (centre, router, joiner):
-        board.ok("board", board.address)
+        board.start()
     for board in (centre, router):
         board.ok("network", 0, 0, NETWORK_KEY)
         board.ok("switch", 0)
@@ -179,7 +186,8 @@ def announce(path):
 
 def counted(board):
     """What a board sealed and wrote, in words; its counters must say the same."""
-    same(f"the state of {board.name}", board.ok("state"), board.sealed, board.written, 0)
+    same(f"the state of {board.name}", board.ok("state"), board.sealed, board.written, 0,
+         board.mark)
     return (f"{board.name} sealed {several(board.sealed, 'frame')} and wrote "
             f"{several(board.written, 'command')}, as its counters say")
 

@@ -180,7 +180,7 @@ def counters(boards):
 def set_up(centre, router, device):
     """The initial conditions: fresh boards, dutZC's network, the shared link key at all three."""
     for board in (centre, router, device):
-        board.ok("board", board.address)
+        board.start()
     centre.ok("network", 0, 0, NETWORK_KEY)
     centre.ok("switch", 0)
     for joiner in (router, device):

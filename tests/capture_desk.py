@@ -35,7 +35,8 @@ NETWORK_KEY = "abcdef01234567890000000000000000"
 OF_THE_CAPTURE = ("--label", LABEL)
 LABEL_KEY = labels.link_key(bytes.fromhex(LABEL[:-6])).hex()
 SPEED_ASKED = 5  # seconds for 10,000 frames
-TOOLS = ("desk.py", "bench_pipe.py", "capture", "independent")  # what a machine without the kit has
+# What a machine without the kit has.
+TOOLS = ("desk.py", "bench_pipe.py", "store.py", "capture", "independent")
 
 
 class Desk:
@@ -49,8 +50,9 @@ class Desk:
         """What desk.py prints and what it says beside that; its exit code must be this."""
         command = [sys.executable, str(ROOT / "desk.py"), *map(str, words),
                    *(self.chosen if chosen is None else chosen)]
+        found_from_here = {**os.environ, "PYTHONPATH": str(ROOT)}  # for --bench 'python3 -m ...'
         ran = subprocess.run(command, capture_output=True, text=True, check=False, cwd=self.folder,
-                             timeout=300, **more)
+                             timeout=300, **{"env": found_from_here, **more})
         if "Traceback" in ran.stderr or ran.returncode != code:
             raise Differs(f"{words} ended with {ran.returncode} and not {code}:\n{ran.stderr}")
         return ran.stdout, ran.stderr

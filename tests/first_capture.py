@@ -201,7 +201,7 @@ def set_up(centre, router, display, wrench, stranger):
     """Who has which keys when the sniffer is started: router and wrench are in the network, and
     the centre was told the display's label."""
     for board in (centre, router, display, wrench, stranger):
-        board.ok("board", board.address)
+        board.start()
     label_key = bytes.fromhex(display.ok("label", LABEL)[1])
     display.ok("link", centre.address, label_key)
     centre.ok("link", display.address, label_key)

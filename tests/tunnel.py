@@ -56,7 +56,8 @@ def after(words):
 def spent(board, before, outgoing, aps, what):
     """The state now, the counters raised by so much since before."""
     now = board.ok("state")
-    same(f"the counters after {what}", now, int(before[0]) + outgoing, int(before[1]) + aps, 0)
+    same(f"the counters after {what}", now, int(before[0]) + outgoing, int(before[1]) + aps, 0,
+         board.mark)
     return now
 
 

@@ -88,11 +88,12 @@ class Case:
 
 
 class Sealer:
-    """A board on the bench with both keys of each kind, and the counter that it should be at; newer
-    says whether its frames are for a Wireshark of 4.4 or later."""
+    """A board on the bench with both keys of each kind, and the counter and mark that it should be
+    at; newer says whether its frames are for a Wireshark of 4.4 or later."""
 
     def __init__(self, bench, own, counter, newer):
         self.bench, self.own, self.counter, self.newer, self.slot = bench, own, counter, newer, 0
+        self.mark = counter
         bench.ok("board", own, counter)
         for slot in (0, 1):
             bench.ok("network", slot, NUMBERS[slot], NETWORK_KEYS[slot])
@@ -103,6 +104,13 @@ class Sealer:
         self.slot = slot
         self.bench.ok("switch", NUMBERS[slot])
 
+    def seal(self, *line):
+        """What is sealed; the mark is moved first where the counter has come up to it."""
+        if self.counter == self.mark:
+            self.mark = int(self.bench.so_many(1, "mark")[0])
+            self.bench.ok("marked", self.mark)
+        return self.bench.octets(*line)
+
     def layer(self, frame, identifier, key, payload):
         """A layer that was just sealed."""
         self.counter += 1
@@ -110,12 +118,12 @@ class Sealer:
 
     def network(self, header, payload):
         """A network frame, sealed, and its layer."""
-        frame = self.bench.octets("seal", header + payload)
+        frame = self.seal("seal", header + payload)
         return frame, self.layer(frame, NETWORK, NETWORK_KEYS[self.slot], payload)
 
     def aps(self, partner, identifier, header, payload):
         """An APS frame, sealed, and its layer."""
-        frame = self.bench.octets("sealaps", PARTNERS[partner], identifier, header + payload)
+        frame = self.seal("sealaps", PARTNERS[partner], identifier, header + payload)
         return frame, self.layer(frame, identifier, LINK_KEYS[partner], payload)
 
     def case(self, name, header, payload, shown, inside=(), level=0):

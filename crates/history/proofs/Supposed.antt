@@ -1,6 +1,7 @@
 -- What is supposed of the host is needed, each half of it: with a host that tells the board a mark that it did not store, and with one
 -- that stores an older mark, there is a log in which our own board seals two frames with the same counter. And the mark must be above
 -- the counter of what is sealed: a board that seals at its mark does not meet the statement, though the host writes and tells nothing.
+-- What is supposed can be met: there is a log in which it is, with a cut between two frames that are sealed.
 -- Assumes nothing.
 use mathlib.Core.Path.{_≡_, refl, ap, _∙_}
 use mathlib.Core.Bool.{true, false}
@@ -53,12 +54,12 @@ output = replicate longest 0
 abbrev seal : Deed Call
 seal = called (sealing Network plain-frame 0 0 output)
 
--- what it hands out when its counter is 0
-abbrev frame : List ℕ
-frame = sealedFrame ours key Network 1 0 1 0 plain-frame 8
+-- what it hands out when its counter is c
+abbrev frame : ℕ → List ℕ
+frame c = sealedFrame ours key Network 1 c 1 0 plain-frame 8
 
-abbrev sent-frame : SentFrame
-sent-frame = record { layer = Network; plain = plain-frame; octets = take (length frame) (onto frame output) }
+abbrev sent-frame : ℕ → SentFrame
+sent-frame c = record { layer = Network; plain = plain-frame; octets = take (length (frame c)) (onto (frame c) output) }
 
 -- ---- what it seals
 
@@ -77,17 +78,17 @@ unfolding noAddress
 to-seal =
     record { unsecured = reads-plain; octets = octets; suited = refl; counter = omega arith; sender = omega arith; someone = refl }
 
--- the counter that its receiver reads is 0
-reads-sealed : reading ours Network (sent-frame .octets) 0 ≡ secured (announcing 8 1 0 1 0)
+-- of the first, its receiver reads counter 0
+reads-sealed : reading ours Network (sent-frame 0 .octets) 0 ≡ secured (announcing 8 1 0 1 0)
 reads-sealed =
-    ap (λ (g : List ℕ). reading ours Network g 0) (take-at frame (drop (length frame) output) (length frame) refl)
+    ap (λ (g : List ℕ). reading ours Network g 0) (take-at (frame 0) (drop (length (frame 0)) output) (length (frame 0)) refl)
     ∙ read-again ours key 0 to-seal 0
 
 -- the same counter twice does not rise
-never-rises : rising (readings ours (sent-frame ∷ sent-frame ∷ [])) ≡ false
+never-rises : rising (readings ours (sent-frame 0 ∷ sent-frame 0 ∷ [])) ≡ false
 never-rises = ap (λ (r : Reading). rising (r ∷ r ∷ [])) reads-sealed
 
--- ---- three logs: each starts twice, and both times seals with counter 0
+-- ---- four logs: in each the board starts twice, and both times seals a frame
 
 -- keys, and what comes before a frame is sealed
 abbrev sealing-after : (List (Deed Call) → List (Deed Call)) → List (Deed Call) → List (Deed Call)
@@ -100,12 +101,17 @@ unstored = sealing-after tell (cut ∷ sealing-after tell [])
     tell : List (Deed Call) → List (Deed Call)
     tell ds = called (marked 1024) ∷ ds
 
--- one that does its steps well, and then stores an older mark, which it found at first
+-- the step to m as it should be
+abbrev step-to : ℕ → List (Deed Call) → List (Deed Call)
+step-to m ds = called (marked m) ∷ wrote m ∷ called nextMark ∷ ds
+
+-- a host that does its steps well, and then stores an older mark, which it found at first
 abbrev older : List (Deed Call)
-older = sealing-after a-step (cut ∷ wrote 0 ∷ sealing-after a-step [])
-  where
-    a-step : List (Deed Call) → List (Deed Call)
-    a-step ds = called (marked 1024) ∷ wrote 1024 ∷ called nextMark ∷ ds
+older = sealing-after (step-to 1024) (cut ∷ wrote 0 ∷ sealing-after (step-to 1024) [])
+
+-- one that does all well
+abbrev well-done : List (Deed Call)
+well-done = sealing-after (step-to 2048) (cut ∷ sealing-after (step-to 1024) [])
 
 -- one that writes and tells nothing
 abbrev idle : List (Deed Call)
@@ -134,13 +140,22 @@ eager ds c = eager-step c (eager-run ds) .reply
 -- ---- what they seal
 
 abbrev Twice : Replies → List (Deed Call) → Type 0
-Twice r ds = sentIn (story ours (log r ds)) ≡ sent-frame ∷ sent-frame ∷ []
+Twice r ds = sentIn (story ours (log r ds)) ≡ sent-frame 0 ∷ sent-frame 0 ∷ []
 
-twice : Twice board unstored × (Twice board older × Twice eager idle)
+-- what is supposed of the host, and that it does not keep a board from sealing: after the cut, at the mark
+abbrev Well : Type 0
+Well =
+    (writesAnswered (log board well-done) ≡ true) × ((tellsStored 0 (log board well-done) ≡ true)
+    × (sentIn (story ours (log board well-done)) ≡ sent-frame 1024 ∷ sent-frame 0 ∷ []))
+
+all-four : (Twice board unstored × (Twice board older × Twice eager idle)) × Well
 unfolding requests.make noAddress requests.install listsFit legal carries requests.holds freed requests.switch requests.slotOf firstAt
     marks.moveMark marks.nextMark sealNetwork sealedRead sealedBy sealedUnder send maySend spent
     readingPlain readHeader numberAt networkControl networkForm networkSecured networkBase networkHeader
-twice = (refl, (refl, refl))
+all-four = ((refl, (refl, refl)), (refl, (refl, refl)))
+
+pub host-can : Well
+host-can = all-four .1
 
 twice-falls : (r : Replies) (ds : List (Deed Call)) → Twice r ds → rising (readings ours (sentIn (story ours (log r ds)))) ≡ false
 twice-falls r ds e = ap (λ (l : List SentFrame). rising (readings ours l)) e ∙ never-rises
@@ -148,7 +163,7 @@ twice-falls r ds e = ap (λ (l : List SentFrame). rising (readings ours l)) e �
 -- "tells the board only what its store holds" can't be left out
 pub tells-needed : ((ds : List (Deed Call)) → SealsOctets ds → writesAnswered (log board ds) ≡ true
     → rising (readings ours (sentIn (story ours (log board ds)))) ≡ true) → ⊥
-tells-needed all = clash (all unstored octets-all refl) (twice-falls board unstored (twice .0))
+tells-needed all = clash (all unstored octets-all refl) (twice-falls board unstored (all-four .0 .0))
   where
     octets-all : SealsOctets unstored
     octets-all = (octets, (nil-octets, (nil-octets, (nil-octets, (octets, (nil-octets, (nil-octets, (nil-octets, nil-octets))))))))
@@ -156,7 +171,7 @@ tells-needed all = clash (all unstored octets-all refl) (twice-falls board unsto
 -- nor can "writes there only the next mark last answered"
 pub writes-needed : ((ds : List (Deed Call)) → SealsOctets ds → tellsStored 0 (log board ds) ≡ true
     → rising (readings ours (sentIn (story ours (log board ds)))) ≡ true) → ⊥
-writes-needed all = clash (all older octets-all refl) (twice-falls board older (twice .1 .0))
+writes-needed all = clash (all older octets-all refl) (twice-falls board older (all-four .0 .1 .0))
   where
     octets-all : SealsOctets older
     octets-all =
@@ -164,7 +179,7 @@ writes-needed all = clash (all older octets-all refl) (twice-falls board older (
 
 -- and a board that seals at its mark does not meet the statement
 pub mark-above : First ours 0 eager → ⊥
-mark-above meets = clash (meets idle octets-all refl refl) (twice-falls eager idle (twice .1 .1))
+mark-above meets = clash (meets idle octets-all refl refl) (twice-falls eager idle (all-four .0 .1 .1))
   where
     octets-all : SealsOctets idle
     octets-all = (octets, (nil-octets, (nil-octets, (octets, (nil-octets, (nil-octets, nil-octets))))))
