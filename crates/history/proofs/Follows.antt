@@ -283,8 +283,9 @@ module _ (z : Settings) (m : ℕ) (board : Replies) (meets : Second z m board) w
           le-ltb (s .counter) (s .counter) (omega arith),
         ) refl
 
-    -- A frame that was opened is refused when it comes again, with any sender under which it is read the same, after any calls by
-    -- which its key's place has no other key, its sender is not forgotten there, and the frame's key still stands there.
+    -- A frame that was opened is refused when it comes again, with any sender under which it is read the same, after any deeds by
+    -- which its key's place has no other key, its sender is not forgotten there, no power is lost, and the frame's key still stands
+    -- there.
     pub replay-refused : (ds : List (Deed Call))
         → untouched home (s .sender) (since z (later board ds (called once ∷ cs)) (story z (log board (called once ∷ cs)))) ≡ true
         → holderFor (story z (log board (ds ++ (called once ∷ cs)))) l s ≡ home
@@ -309,7 +310,7 @@ module _ (z : Settings) (m : ℕ) (board : Replies) (meets : Second z m board) w
       go (refused n) e t = t
       go (plain n) e t = absurd (ne n e)
 
-  -- leaves what may be opened as it was: whatever calls follow, as long as they are answered as they would have been without it,
+  -- leaves what may be opened as it was: whatever deeds follow, as long as the calls are answered as they would have been without it,
   -- the next frame that is not unsecured is opened just if it would have been
   pub refused-leaves : (cs : List (Deed Call)) (l : Layer) (f : List ℕ) (g : ℕ) (o : List ℕ) → refuses (board cs (opening l f g o)) ≡ true
       → (ds : List (Deed Call)) → later board ds (called (opening l f g o) ∷ cs) ≡ later board ds cs
