@@ -1,4 +1,6 @@
 // The refusals of documents 01 and 02, each with its number there, and the protections.
+#![tactic(auto)]
+
 ghost use Rattle.std.specs.Prelude.{◌≡◌};
 ghost use Rattle.answers.specs.Numbers.{number_of};
 

@@ -1,4 +1,6 @@
 // APS frames: opening, sealing and looking.
+#![tactic(auto)]
+
 mod keys;
 mod looking;
 mod opening;

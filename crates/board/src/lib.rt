@@ -1,5 +1,7 @@
 // The board: its state by value, the two lent lists of heard senders, and the requests that change
 // keys.
+#![tactic(auto)]
+
 mod keys;
 mod mark;
 mod outgoing;

@@ -3,6 +3,8 @@
 // Every routine here answers every input. The S-box and the round constants are made once a call and
 // lent downward, since a constant that is used in place is rebuilt on the stack at each use; a key is
 // expanded once.
+#![tactic(auto)]
+
 mod aes;
 mod blocks;
 mod ccm;

@@ -1,5 +1,7 @@
 // APS commands: read out of a plain frame, with their parts handed back out of that frame, and
 // written.
+#![tactic(auto)]
+
 mod kinds;
 mod parts;
 mod reader;

@@ -1,5 +1,7 @@
 // Network and APS frames, as far as they are read without a key: headers, the auxiliary header, the
 // nonce and the octets that are authenticated. There is no state here.
+#![tactic(auto)]
+
 mod aps_header;
 mod making;
 mod network_header;

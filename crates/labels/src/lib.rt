@@ -1,6 +1,8 @@
 // Install codes: the label on a device's box, read and printed, and the link key that it gives.
 //
 // Every routine here answers every input, and there is no state.
+#![tactic(auto)]
+
 mod codes;
 mod crc;
 mod printing;

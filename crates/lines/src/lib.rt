@@ -3,6 +3,8 @@
 //
 // No function here asks anything of its caller, and each says by an equation what it answers. Reading
 // the input and writing the output are the program's: no contract says what they do.
+#![tactic(auto)]
+
 mod answer;
 mod forms;
 mod lent;

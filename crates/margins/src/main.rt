@@ -3,6 +3,8 @@
 // It shows what no line of the bench does: the octets behind a frame in the output, the output and
 // the tables of a refusal, and the place that a part is handed back from. What it shows is what the
 // proved library left; it adds nothing to it.
+#![tactic(auto)]
+
 mod answer;
 mod hashes;
 mod input;

@@ -1,4 +1,6 @@
 // Network frames: opening, sealing and looking.
+#![tactic(auto)]
+
 mod looking;
 mod opening;
 mod sealing;

@@ -1,4 +1,6 @@
 // Lists of octets: what every layer above reads and writes.
+#![tactic(auto)]
+
 ghost use Rattle.std.specs.Prelude.{◌≡◌};
 ghost use Rattle.octets.specs.Lists.{at, eq_list, pasted};
 ghost use Rattle.octets.specs.Least.{number_at, spelled};

@@ -1,4 +1,6 @@
 // The router's request: a Tunnel taken apart, and what it carries handed on unchanged.
+#![tactic(auto)]
+
 mod routing;
 
 use answers::Refusal;

@@ -1,4 +1,6 @@
 // Secured frames and their keys: what both layers do alike once a key was found.
+#![tactic(auto)]
+
 ghost use Rattle.std.specs.Prelude.{◌≡◌, ◌≤◌, true, length, take, drop};
 ghost use Rattle.settings.specs.Settings.{ours, longest};
 ghost use Rattle.octets.specs.Keys.{the_key};

@@ -1,5 +1,6 @@
 // Document 01's numbers, by name. A contract can't name a constant of the code: specs/Settings has
 // the same names for the definitions, and each test in the code is proved against those.
+#![tactic(auto)]
 
 // The octets of the longest network frame, and of the room that every output has.
 pub const LONGEST: usize = 116;

@@ -2,6 +2,8 @@
 //
 // No callable function here asks anything of its caller, and each says by an equation what it answers, so a
 // program that talks in lines needs no proof of its own.
+#![tactic(auto)]
+
 mod cursor;
 mod decimal;
 mod digits;

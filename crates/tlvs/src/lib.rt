@@ -1,4 +1,6 @@
 // TLVs: one walk that tells whether they fill their octets, and finds the first one of a kind.
+#![tactic(auto)]
+
 ghost use Rattle.std.specs.Prelude.{◌≡◌, ◌≤◌};
 ghost use Rattle.tlvs.specs.Filling.{value_size};
 ghost use Rattle.tlvs.specs.Looking.{wants, walked};

@@ -3,6 +3,8 @@
 //
 // It answers each line of standard input by one line, and stays in step with a writer that waits
 // for each answer: it reads what is there and writes an answer as soon as its line has ended.
+#![tactic(auto)]
+
 mod answer;
 mod desk;
 mod headers;
