@@ -5,7 +5,7 @@ ghost use Rattle.std.specs.Prelude.{◌≡◌};
 ghost use Rattle.answers.specs.Numbers.{number_of};
 
 // The refusals in the order of their numbers: the fourteen of 01's table, then those that 02 brings.
-#[derive(Drop)]
+#[derive(Clone, Copy)]
 pub enum Refusal {
     Room,
     Long,
@@ -27,35 +27,35 @@ pub enum Refusal {
 }
 
 // What protected a frame: nothing, or a key, named by its identifier.
-#[derive(Drop)]
+#[derive(Clone, Copy)]
 pub enum Guard {
     Clear,
     Under(u8),
 }
 
 // A request that answers no value: it was done, or refused.
-#[derive(Drop)]
+#[derive(Clone, Copy)]
 pub enum Outcome {
     Done,
     Refused(Refusal),
 }
 
 // A frame that opened, with its length, its sender (0 if unsecured) and what protected it.
-#[derive(Drop)]
+#[derive(Clone, Copy)]
 pub enum Opened {
     Frame(usize, u64, Guard),
     Refused(Refusal),
 }
 
 // A frame that was sealed, with its length.
-#[derive(Drop)]
+#[derive(Clone, Copy)]
 pub enum Sealed {
     Frame(usize),
     Refused(Refusal),
 }
 
 // A command frame that was written, with its length.
-#[derive(Drop)]
+#[derive(Clone, Copy)]
 pub enum Written {
     Frame(usize),
     Refused(Refusal),

@@ -13,7 +13,7 @@ pub use opening::open_frame;
 pub use sealing::seal_frame;
 
 // What opening answers, and the board that it leaves.
-#[derive(Drop)]
+#[derive(Clone, Copy)]
 pub struct Received {
     pub answer: Opened,
     pub board: Board,

@@ -20,7 +20,7 @@ use settings::{LONGEST, LONGEST_APS, TOP};
 // What opening answers, the entry that it changes, if any, and what then stands there. The stages
 // below have what they read of the board, not the board: each that had it would hold a copy while
 // the cipher works.
-#[derive(Drop)]
+#[derive(Clone, Copy)]
 struct Heard {
     answer: Opened,
     entry: Place,

@@ -7,7 +7,7 @@ use commands::Command;
 use text::Octets;
 
 // A line that is none, one that asks for a board, and one that does not.
-#[derive(Drop)]
+#[derive(Clone, Copy)]
 pub enum Request {
     Bad,
     OnBoard(OnBoard),
@@ -16,7 +16,7 @@ pub enum Request {
 
 // The numbers of a request stand in its case, as its line has them; its octets stand beside it, in
 // `Asked`.
-#[derive(Drop)]
+#[derive(Clone, Copy)]
 pub enum OnBoard {
     Network(usize, u8),
     Switch(u8),
@@ -35,7 +35,7 @@ pub enum OnBoard {
     Write(bool, Command),
 }
 
-#[derive(Drop)]
+#[derive(Clone, Copy)]
 pub enum Alone {
     Board(u64, u32),
     Lend(usize, usize, usize),
@@ -49,7 +49,7 @@ pub enum Alone {
 }
 
 // A request, its key or hash, and its other octets; none where it has none.
-#[derive(Drop)]
+#[derive(Clone, Copy)]
 pub struct Asked {
     pub request: Request,
     pub key: Frame,

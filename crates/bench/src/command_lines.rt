@@ -9,7 +9,7 @@ use commands::{Command, Reading, Requested, Transported, Wrote};
 use lines::{Answer, address, decimal, hex, refused, word};
 
 // A command by its row, and its numbers, each at its field's place in a `write` line.
-#[derive(Drop)]
+#[derive(Clone, Copy)]
 struct Spelt {
     w: u8,
     v: [u64; 8],

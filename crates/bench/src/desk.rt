@@ -4,14 +4,14 @@ use board::{After, Board};
 use lines::{Answer, first};
 
 // The stored lists.
-#[derive(Drop)]
+#[derive(Clone, Copy)]
 pub struct Lists {
     pub addrs: [u64; 1024],
     pub floors: [u32; 1024],
 }
 
 // How many octets of output, addresses and floors the requests are lent.
-#[derive(Drop)]
+#[derive(Clone, Copy)]
 pub struct Lent {
     pub room: usize,
     pub rows: usize,
@@ -20,7 +20,7 @@ pub struct Lent {
 
 // The board, if one was made, its lists and what is lent. All of it goes by value, the lists too: a
 // list lent down to here would be paid for in every branch.
-#[derive(Drop)]
+#[derive(Clone, Copy)]
 pub struct Desk {
     pub ready: bool,
     pub board: Board,
@@ -29,14 +29,14 @@ pub struct Desk {
 }
 
 // A line's answer, and the desk that it leaves.
-#[derive(Drop)]
+#[derive(Clone, Copy)]
 pub struct Reply {
     pub answer: Answer,
     pub desk: Desk,
 }
 
 // What a line that is lent the lists answers and leaves.
-#[derive(Drop)]
+#[derive(Clone, Copy)]
 pub struct Held {
     pub answer: Answer,
     pub board: Board,
@@ -44,7 +44,7 @@ pub struct Held {
 }
 
 // The same of a line that leaves the lists alone.
-#[derive(Drop)]
+#[derive(Clone, Copy)]
 pub struct Moved {
     pub answer: Answer,
     pub board: Board,

@@ -1,7 +1,7 @@
 // The octets of a line: a frame, a key, or what a command carries.
 
 // The first n octets.
-#[derive(Drop)]
+#[derive(Clone, Copy)]
 pub struct Frame {
     pub n: usize,
     pub octets: [u8; 256],

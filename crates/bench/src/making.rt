@@ -6,7 +6,7 @@ use board::Board;
 use lines::Answer;
 
 // A board, whether it was made, and what is answered.
-#[derive(Drop)]
+#[derive(Clone, Copy)]
 struct Start {
     made: bool,
     answer: Answer,

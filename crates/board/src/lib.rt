@@ -19,14 +19,14 @@ pub use rows::{find_row, forget, lists_fit};
 pub use state::make;
 
 // The lowest place that was looked for.
-#[derive(Drop)]
+#[derive(Clone, Copy)]
 pub enum Place {
     At(usize),
     Absent,
 }
 
 // A network key and its sequence number.
-#[derive(Drop)]
+#[derive(Clone, Copy)]
 pub struct Slot {
     pub present: bool,
     pub seq: u8,
@@ -34,7 +34,7 @@ pub struct Slot {
 }
 
 // A partner's link key; floor is the least counter still accepted under it.
-#[derive(Drop)]
+#[derive(Clone, Copy)]
 pub struct Link {
     pub present: bool,
     pub partner: u64,
@@ -42,14 +42,14 @@ pub struct Link {
     pub floor: u32,
 }
 
-#[derive(Drop)]
+#[derive(Clone, Copy)]
 pub enum Active {
     Nobody,
     Slot(usize),
 }
 
 // The state. The mark is above every counter that was sent: the host's store holds it, or the next.
-#[derive(Drop)]
+#[derive(Clone, Copy)]
 pub struct Board {
     pub own: u64,
     pub outgoing: u32,
@@ -61,14 +61,14 @@ pub struct Board {
 }
 
 // A request's answer, and the board that it leaves.
-#[derive(Drop)]
+#[derive(Clone, Copy)]
 pub struct After {
     pub answer: Outcome,
     pub board: Board,
 }
 
 // What sealing needs of the board: its address, the counter that goes out, and the mark.
-#[derive(Drop)]
+#[derive(Clone, Copy)]
 pub struct Sending {
     pub own: u64,
     pub counter: u32,
@@ -76,7 +76,7 @@ pub struct Sending {
 }
 
 // What sealing answers, and the board that it leaves.
-#[derive(Drop)]
+#[derive(Clone, Copy)]
 pub struct Sent {
     pub answer: Sealed,
     pub board: Board,

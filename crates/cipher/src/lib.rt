@@ -16,7 +16,7 @@ ghost use Rattle.cipher.specs.Aes.{aes128};
 ghost use Rattle.cipher.specs.Answers.{product, counted, sealing, opening, hashing, keyed_hashing};
 
 // A refusal, by the number that document 01 gives it: 1, 2, 3, 9 and 14.
-#[derive(Drop)]
+#[derive(Clone, Copy)]
 pub enum Fault {
     Room,
     Long,
@@ -26,14 +26,14 @@ pub enum Fault {
 }
 
 // How many octets were made, or why none were.
-#[derive(Drop)]
+#[derive(Clone, Copy)]
 pub enum Answer {
     Made(usize),
     Refused(Fault),
 }
 
 // A hash, or a refusal with zeros for it.
-#[derive(Drop)]
+#[derive(Clone, Copy)]
 pub struct Hashed {
     pub answer: Answer,
     pub octets: [u8; 16],

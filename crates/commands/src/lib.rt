@@ -16,7 +16,7 @@ pub use writer::write_command;
 
 // A command with its numbers, in the order in which they stand in the frame. Keys, hashes, inner
 // frames and TLVs are asked for alone.
-#[derive(Drop)]
+#[derive(Clone, Copy)]
 pub enum Command {
     TransportKey(Transported),
     // device, short address, status
@@ -37,7 +37,7 @@ pub enum Command {
 }
 
 // The key that a Transport-Key carries; types 2 and 3 have one layout.
-#[derive(Drop)]
+#[derive(Clone, Copy)]
 pub enum Transported {
     // sequence number, destination, source
     Network(u8, u64, u64),
@@ -49,7 +49,7 @@ pub enum Transported {
 }
 
 // The key that a Request-Key asks for.
-#[derive(Drop)]
+#[derive(Clone, Copy)]
 pub enum Requested {
     // partner
     Application(u64),
@@ -57,21 +57,21 @@ pub enum Requested {
 }
 
 // What the reader answers.
-#[derive(Drop)]
+#[derive(Clone, Copy)]
 pub enum Reading {
     Command(Command),
     Refused(Refusal),
 }
 
 // What the writer answers, and the board that it leaves.
-#[derive(Drop)]
+#[derive(Clone, Copy)]
 pub struct Wrote {
     pub answer: Written,
     pub board: Board,
 }
 
 // A command without its numbers: a row of 01's list, by identifier and inner type.
-#[derive(Drop)]
+#[derive(Clone, Copy)]
 pub(crate) enum Kind {
     Transport1,
     Transport4,
@@ -89,14 +89,14 @@ pub(crate) enum Kind {
     Up,
 }
 
-#[derive(Drop)]
+#[derive(Clone, Copy)]
 enum Listed {
     Reserved,
     Is(Kind),
 }
 
 // The sixteen octets that a command may have.
-#[derive(Drop)]
+#[derive(Clone, Copy)]
 pub(crate) enum Secret {
     NoSecret,
     Key,
@@ -104,7 +104,7 @@ pub(crate) enum Secret {
 }
 
 // What follows a command's own octets.
-#[derive(Drop)]
+#[derive(Clone, Copy)]
 pub(crate) enum Rest {
     End,
     Tlvs,
@@ -113,7 +113,7 @@ pub(crate) enum Rest {
 }
 
 // A protection that the list allows.
-#[derive(Drop)]
+#[derive(Clone, Copy)]
 pub(crate) enum Allowed {
     Clear,
     Only(u8),
@@ -121,7 +121,7 @@ pub(crate) enum Allowed {
 }
 
 // A row of 01's list; size counts from the identifier to where the rest starts.
-#[derive(Drop)]
+#[derive(Clone, Copy)]
 pub(crate) struct Rule {
     pub size: usize,
     pub secret: Secret,
@@ -130,21 +130,21 @@ pub(crate) struct Rule {
 }
 
 // A frame judged.
-#[derive(Drop)]
+#[derive(Clone, Copy)]
 enum Judged {
     Refused(Refusal),
     Sound(Kind),
 }
 
 // Where a part stands in a frame.
-#[derive(Drop)]
+#[derive(Clone, Copy)]
 pub struct Span {
     pub from: usize,
     pub count: usize,
 }
 
 // Octets put one behind another, the first `count` of them.
-#[derive(Drop)]
+#[derive(Clone, Copy)]
 struct Line {
     octets: [u8; 35],
     count: usize,

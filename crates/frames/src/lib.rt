@@ -15,7 +15,7 @@ pub use reading::{read_command, read_frame, read_plain};
 pub use security::{identifier, lay_auxiliary, nonce, wire_control};
 pub use tunnelling::may_tunnel;
 
-#[derive(Drop)]
+#[derive(Clone, Copy)]
 pub enum Layer {
     Network,
     Aps,
@@ -23,7 +23,7 @@ pub enum Layer {
 
 // What a secured frame announces: the lengths of its two headers, its security control as received,
 // its counter, the sender, and the key sequence number where it has one.
-#[derive(Drop)]
+#[derive(Clone, Copy)]
 pub struct Secured {
     pub header: usize,
     pub aux: usize,
@@ -34,7 +34,7 @@ pub struct Secured {
 }
 
 // A frame that is to be opened: refused, unsecured with so many octets of header, or secured.
-#[derive(Drop)]
+#[derive(Clone, Copy)]
 pub enum Read {
     Refused(Refusal),
     Plain(usize),
@@ -43,14 +43,14 @@ pub enum Read {
 
 // A plain frame that is to be sealed, or whose command is to be read: refused, or its header has so
 // many octets.
-#[derive(Drop)]
+#[derive(Clone, Copy)]
 pub enum PlainRead {
     Refused(Refusal),
     Header(usize),
 }
 
 // A header read: refused, or so many octets of it, and whether the security bit is set.
-#[derive(Drop)]
+#[derive(Clone, Copy)]
 enum Heading {
     Refused(Refusal),
     Octets(usize, bool),

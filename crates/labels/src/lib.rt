@@ -14,7 +14,7 @@ pub use printing::print_label;
 pub use reading::read_label;
 
 // How many octets the code has that was read, or why none was.
-#[derive(Drop)]
+#[derive(Clone, Copy)]
 pub enum Coded {
     Code(usize),
     Refused(Refusal),
@@ -22,7 +22,7 @@ pub enum Coded {
 
 // An install code, at the front of 16 octets with zeros behind it, and its link key; zeros beside a
 // refusal.
-#[derive(Drop)]
+#[derive(Clone, Copy)]
 pub struct Label {
     pub answer: Coded,
     pub code: [u8; 16],
@@ -30,7 +30,7 @@ pub struct Label {
 }
 
 // How many octets the text has that was printed, or why none was.
-#[derive(Drop)]
+#[derive(Clone, Copy)]
 pub enum Printed {
     Text(usize),
     Refused(Refusal),

@@ -6,7 +6,7 @@ ghost use Rattle.labels.specs.Code.{spells_on};
 
 // What is to come next in a text: an octet, the second digit of one, or what is behind one; or that
 // something was wrong.
-#[derive(Drop)]
+#[derive(Clone, Copy)]
 pub enum Next {
     Octet,
     Digit,

@@ -11,14 +11,14 @@ const ROOM: usize = 2 + 1026 * 33;
 const WHOLE: usize = ROOM + 22;
 
 // What follows a line's number: the first n octets.
-#[derive(Drop)]
+#[derive(Clone, Copy)]
 pub struct Answer {
     pub n: usize,
     pub octets: [u8; ROOM],
 }
 
 // A line of the output: the first n octets.
-#[derive(Drop)]
+#[derive(Clone, Copy)]
 pub struct Whole {
     pub n: usize,
     pub octets: [u8; WHOLE],

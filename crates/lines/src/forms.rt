@@ -11,7 +11,7 @@ use text::{Address, Number, Octets};
 
 // What a field may be: a word that is not judged here, an address, a decimal up to that, a
 // protection; hex of octets, or octets as they stand, so many at least and at most.
-#[derive(Drop)]
+#[derive(Clone, Copy)]
 pub enum Kind {
     Word,
     Address,
@@ -23,7 +23,7 @@ pub enum Kind {
 
 // What a good field is worth: an address or a decimal is that number, the protection `none` 256; of
 // octets it is how many they are, and of a word 0.
-#[derive(Drop)]
+#[derive(Clone, Copy)]
 pub enum Value {
     Is(u64),
     Bad,

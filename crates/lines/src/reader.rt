@@ -7,7 +7,7 @@ use crate::reading::{Stop, fresh_line, next_line};
 
 // Where it stopped in the chunk that was read last, how many octets that has, the number of the
 // line, and whether the input goes on.
-#[derive(Drop)]
+#[derive(Clone, Copy)]
 pub struct Reader {
     pub stop: Stop,
     pub to: usize,

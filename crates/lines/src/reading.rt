@@ -6,7 +6,7 @@ ghost use Rattle.lines.specs.Reading.{held, unread, fed, stopped, read_on};
 
 // How many octets of the line stand at the front of the lent buffer, and whether it has more than
 // there is room for.
-#[derive(Drop)]
+#[derive(Clone, Copy)]
 pub struct Line {
     pub at: usize,
     pub long: bool,
@@ -14,7 +14,7 @@ pub struct Line {
 
 // Where reading stopped: the line, whether its line feed was met, and the place in the chunk behind
 // what was read.
-#[derive(Drop)]
+#[derive(Clone, Copy)]
 pub struct Stop {
     pub line: Line,
     pub ended: bool,

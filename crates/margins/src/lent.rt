@@ -2,7 +2,7 @@
 use board::{Active, Board, Link, Slot};
 
 // The two lists of heard senders, of which a line is lent the first rows.
-#[derive(Drop)]
+#[derive(Clone, Copy)]
 pub struct Lists {
     pub addrs: [u64; 1026],
     pub floors: [u32; 1026],

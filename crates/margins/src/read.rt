@@ -2,7 +2,7 @@
 use text::Octets;
 
 // The first n octets, and whether they were read well.
-#[derive(Drop)]
+#[derive(Clone, Copy)]
 pub struct Frame {
     pub good: bool,
     pub n: usize,
@@ -11,7 +11,7 @@ pub struct Frame {
 
 // What a line has in its fields, and whether all of them are good: each number at its field's
 // place, and the octets, none where its form has none.
-#[derive(Drop)]
+#[derive(Clone, Copy)]
 pub struct Fields {
     pub good: bool,
     pub v: [u64; 8],

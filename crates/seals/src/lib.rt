@@ -14,7 +14,7 @@ use frames::{Layer, Secured};
 
 // The length of the plain frame that was made; or 9, tag wrong. So are told, too, a frame that is
 // not what was announced and an output under 116 octets, which the layers judge before.
-#[derive(Drop)]
+#[derive(Clone, Copy)]
 pub enum Unsealed {
     Plain(usize),
     Forged,
@@ -22,7 +22,7 @@ pub enum Unsealed {
 
 // The length of the secured frame that was made; or 14, argument not allowed: an identifier above
 // 3, a header that the frame does not have, no room.
-#[derive(Drop)]
+#[derive(Clone, Copy)]
 pub enum Enclosed {
     Octets(usize),
     Nothing,

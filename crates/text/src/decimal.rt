@@ -8,7 +8,7 @@ ghost use Rattle.text.specs.Decimal.{decimal, zero_led, is_decimal, number_of, a
 use crate::cursor::put;
 use crate::digits::{all_digits, digit};
 
-#[derive(Drop)]
+#[derive(Clone, Copy)]
 pub enum Number {
     Is(u32),
     Bad,

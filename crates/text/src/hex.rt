@@ -10,13 +10,13 @@ use crate::cursor::put;
 use crate::digits::{all_digits, digit};
 
 // How many octets were read, or that it was no hex, or more than there is room for.
-#[derive(Drop)]
+#[derive(Clone, Copy)]
 pub enum Octets {
     Are(usize),
     Bad,
 }
 
-#[derive(Drop)]
+#[derive(Clone, Copy)]
 pub enum Address {
     Is(u64),
     Bad,

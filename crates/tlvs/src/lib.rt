@@ -11,7 +11,7 @@ ghost use Rattle.tlvs.specs.Looking.{relays};
 ghost use Rattle.tlvs.specs.declared.Wanted.{Wanted};
 
 // What a walk looks for: nothing, a tag, or the TLV that Relay asks for.
-#[derive(Drop)]
+#[derive(Clone, Copy)]
 pub enum Wanted {
     Nothing,
     Tag(u8),
@@ -20,7 +20,7 @@ pub enum Wanted {
 
 // What a walk found: octets that are no TLVs, none that is wanted, or the place and the size of the
 // value of the first one.
-#[derive(Drop)]
+#[derive(Clone, Copy)]
 pub enum Walked {
     Ill,
     Absent,

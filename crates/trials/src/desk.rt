@@ -5,7 +5,7 @@ use lines::Answer;
 
 // The board, if one was made, the stored lists, and how many rows of each are lent. All of it goes
 // by value, the lists too: a list lent down to here would be paid for in every branch.
-#[derive(Drop)]
+#[derive(Clone, Copy)]
 pub struct Desk {
     pub ready: bool,
     pub board: Board,
@@ -16,7 +16,7 @@ pub struct Desk {
 }
 
 // A line's answer, and the desk that it leaves.
-#[derive(Drop)]
+#[derive(Clone, Copy)]
 pub struct Reply {
     pub answer: Answer,
     pub desk: Desk,

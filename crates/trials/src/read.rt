@@ -2,7 +2,7 @@
 use text::Octets;
 
 // The first n octets.
-#[derive(Drop)]
+#[derive(Clone, Copy)]
 pub struct Frame {
     pub n: usize,
     pub octets: [u8; 256],

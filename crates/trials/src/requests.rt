@@ -6,7 +6,7 @@ use crate::{headers, keys, lists, raw, show};
 use lines::Answer;
 
 // A line's request by the number of its word, and the numbers in its fields.
-#[derive(Drop)]
+#[derive(Clone, Copy)]
 struct Asked {
     w: usize,
     v: [u64; 8],

@@ -5,7 +5,7 @@ use cipher::Hashed;
 use lines::{Answer, hex};
 
 // A line's answer, and how many octets are lent from now on.
-#[derive(Drop)]
+#[derive(Clone, Copy)]
 pub struct Reply {
     pub answer: Answer,
     pub lent: usize,

@@ -1,0 +1,6 @@
+-- The two steps, of the octets of the state.
+use Rattle.std.proofs.Common.{rules}
+use Rattle.cipher.proofs.aes.sub_and_shift.Goals as goal
+
+pub returns : goal.returns
+returns c = cc

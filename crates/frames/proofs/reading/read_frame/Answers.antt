@@ -1,0 +1,24 @@
+-- What the header told decides; where it was read, the security bit says how the rest is read.
+use mathlib.Core.Path.{sym, ap, ◌∙◌}
+use Rattle.std.proofs.Common.{rules}
+use Rattle.frames.specs.Reading.{reading}
+use Rattle.frames.specs.Code.{told_heading}
+use Rattle.frames.proofs.reading.read_frame.Goals as goal
+
+pub returns-then-secured : goal.returns-then-secured
+unfolding reading
+returns-then-secured c =
+    simp (
+      sym c.read_header.ensures ∙ ap told_heading c.in-Octets.is,
+      c.if-secured.true,
+      ← c.given_to.ensures,
+    )
+    c.secured_behind.ensures
+
+pub returns-in-Refused : goal.returns-in-Refused
+unfolding reading
+returns-in-Refused c = simp (sym c.read_header.ensures ∙ ap told_heading c.in-Refused.is)
+
+pub returns-else-secured : goal.returns-else-secured
+unfolding reading
+returns-else-secured c = simp (sym c.read_header.ensures ∙ ap told_heading c.in-Octets.is, c.if-secured.false) c.plain_behind.ensures

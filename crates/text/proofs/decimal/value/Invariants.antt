@@ -1,0 +1,16 @@
+-- The loop keeps: s spells what is read on from n at i, and n is within the limit; reading on never makes it less.
+use mathlib.Core.Path.{◌≡◌, sym, ◌∙◌, ap}
+use Prim.Native.Nat.{◌+◌, ◌*◌, ◌≤◌, ◌-◌}
+use native.Mathlib.Omega.{arith}
+use lib.ListN.{get_or, length, drop}
+use Rattle.std.proofs.Common.{rules}
+use Rattle.text.specs.Digits.{digit_of, spelt}
+use Rattle.text.specs.Decimal.{at_most}
+use Rattle.text.proofs.Decimals.{at-most, too_many}
+use Rattle.text.proofs.Reading.{spelt-more, spelt-end, spelt-low}
+use Rattle.text.proofs.decimal.value.Given as goal
+
+abbrev pub invariant-loop-i : goal.invariant-loop-i
+invariant-loop-i l =
+    (l.i ≤ length l.s) × (l.i-end ≡ length l.s) × (l.n ≤ l.most) × (l.limit ≡ l.most)
+    × (spelt 10 0 l.s ≡ spelt 10 l.n (drop l.i l.s))
