@@ -1,5 +1,4 @@
 -- The three arms are the definition's three cases.
-use Rattle.std.proofs.Common.{rules}
 use Rattle.tlvs.specs.Code.{earlier}
 use Rattle.tlvs.proofs.earlier.Goals as goal
 

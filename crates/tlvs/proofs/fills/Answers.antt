@@ -1,6 +1,5 @@
 -- Whatever it wants, a walk ends ill just where no TLVs fill s; any other end is a yes.
-use mathlib.Core.Path.{sym, ◌∙◌}
-use Rattle.std.proofs.Common.{rules}
+use mathlib.Core.Path.{sym}
 use Rattle.tlvs.proofs.Walks.{fills-walked}
 use Rattle.tlvs.proofs.fills.Goals as goal
 

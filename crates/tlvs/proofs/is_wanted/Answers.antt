@@ -1,6 +1,5 @@
 -- The three arms are the definition's three cases; `&&` and `both` ask the same two things in the same order.
 use borrow.Author.Tests.{eq-eqb, ne_eqb}
-use Rattle.std.proofs.Common.{rules}
 use Rattle.tlvs.specs.Looking.{wants}
 use Rattle.tlvs.proofs.is_wanted.Goals as goal
 

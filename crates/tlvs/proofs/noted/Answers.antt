@@ -1,5 +1,4 @@
 -- The test is the definition's; a TLV that is wanted goes to `earlier`, as there.
-use Rattle.std.proofs.Common.{rules}
 use Rattle.tlvs.specs.Code.{noted}
 use Rattle.tlvs.proofs.noted.Goals as goal
 

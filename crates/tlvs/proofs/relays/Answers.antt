@@ -1,6 +1,5 @@
 -- `walk` finds what the definition looks for, and only a place that was found is a yes.
-use mathlib.Core.Path.{sym, ◌∙◌}
-use Rattle.std.proofs.Common.{rules}
+use mathlib.Core.Path.{sym}
 use Rattle.tlvs.specs.Looking.{relays}
 use Rattle.tlvs.proofs.relays.Goals as goal
 

@@ -1,10 +1,8 @@
 use mathlib.Core.Path.{refl}
-use Prim.Native.Nat.{◌-◌, ◌≤◌}
 use native.Mathlib.Omega.{arith}
-use lib.ListN.{length}
 use Rattle.std.proofs.Common.{rules}
 use Rattle.tlvs.specs.Looking.{walked}
-use Rattle.tlvs.proofs.Walks.{Stands, walk-bare, walk-cut, walk-next, walk-done}
+use Rattle.tlvs.proofs.Walks.{walk-bare, walk-cut, walk-next, walk-done}
 use Rattle.tlvs.proofs.walk.Goals as goal
 
 pub loop-i-init : goal.loop-i-init

@@ -1,11 +1,7 @@
 -- The loop keeps: all that the walk finds is what was seen, or else what is found from i on; ill there is ill in all.
-use mathlib.Core.Path.{refl}
 use Prim.Native.Nat.{◌-◌, ◌≤◌}
-use native.Mathlib.Omega.{arith}
 use lib.ListN.{length}
-use Rattle.std.proofs.Common.{rules}
-use Rattle.tlvs.specs.Looking.{walked}
-use Rattle.tlvs.proofs.Walks.{Stands, walk-bare, walk-cut, walk-next, walk-done}
+use Rattle.tlvs.proofs.Walks.{Stands}
 use Rattle.tlvs.proofs.walk.Given as goal
 
 abbrev pub invariant-loop-i : goal.invariant-loop-i

@@ -1,7 +1,5 @@
 -- The number is asked first, then all octets, as in the definition.
 use mathlib.Core.Path.{sym, ◌∙◌}
-use Rattle.std.proofs.Common.{rules}
-use borrow.Author.Tests.{not-true, not-false}
 use Rattle.board.specs.Requests.{holds}
 use Rattle.board.proofs.keys.holds_key.Goals as goal
 

@@ -2,17 +2,13 @@
 -- slot is replaced.
 use mathlib.Core.Path.{refl, sym, ap, ◌∙◌}
 use native.Mathlib.Omega.{arith}
-use Rattle.std.proofs.Common.{rules}
-use borrow.Author.Tests.{lt-ltb, le-ltb, not-true, not-false}
-use Rattle.board.specs.Rows.{Lists, lists, half}
+use borrow.Author.Tests.{lt-ltb, le-ltb}
+use Rattle.board.specs.Rows.{lists, half}
 use Rattle.board.specs.Requests.{changed, install}
 use Rattle.board.proofs.Leaves.{left-all}
 use Rattle.answers.specs.Numbers.{done}
 use Rattle.board.proofs.Halves.{lists-long, slot-start, slot-within}
 use Rattle.board.proofs.keys.install.Goals as goal
-
-abbrev lent : tie.Start → Lists
-lent c = lists c.args.addrs.now c.args.floors.now
 
 pub returns-then-not-lists_fit : goal.returns-then-not-lists_fit
 unfolding install
@@ -50,13 +46,13 @@ returns-then-holds_key c =
 
 pub overflow_mul-slot : goal.overflow_mul-slot
 overflow_mul-slot c =
-    let low = slot-start (half (lent (search))) c.args.slot (omega (arith, c.if-slot-gt1.false)) in
-    record { fits = omega (arith, low, c.good.1.0.0) }
+    let low = slot-start (half (lists c.args.addrs.now c.args.floors.now)) c.args.slot (omega (arith, c.if-slot-gt1.false)) in
+    record { fits = omega (arith, low) }
 
 pub free_rows-requires : goal.free_rows-requires
 free_rows-requires c =
-    let h = lists-long (lent (search)) (sym c.lists_fit.ensures ∙ c.if-not-lists_fit.false) in
-    let inside = slot-within (half (lent (search))) c.args.slot (omega (arith, c.if-slot-gt1.false)) in
+    let h = lists-long (lists c.args.addrs.now c.args.floors.now) (sym c.lists_fit.ensures ∙ c.if-not-lists_fit.false) in
+    let inside = slot-within (half (lists c.args.addrs.now c.args.floors.now)) c.args.slot (omega (arith, c.if-slot-gt1.false)) in
     (omega (arith, h.0, inside), omega (arith, h.1, inside))
 
 pub returns : goal.returns
@@ -68,5 +64,5 @@ returns c =
       sym c.carries_number.ensures ∙ c.if-carries_number.false,
       sym c.holds_key.ensures ∙ c.if-holds_key.false,
     )
-    (left-all (c.did-2.ensures ∙ ap (changed done) c.with_slot.ensures) c.free_rows.ensures.0
-    c.free_rows.ensures.1)
+    (left-all (c.did-2.ensures ∙ ap (changed done) c.with_slot.ensures) c.free_rows.ensures.addrs_after
+    c.free_rows.ensures.floors_after)

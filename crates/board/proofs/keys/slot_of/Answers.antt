@@ -1,6 +1,5 @@
 -- The two slots are asked in the order in which the definition's search goes through them.
 use mathlib.Core.Path.{sym, ◌∙◌}
-use Rattle.std.proofs.Common.{rules}
 use Rattle.board.specs.Places.{first_at}
 use Rattle.board.specs.Requests.{slot_of}
 use Rattle.board.proofs.keys.slot_of.Goals as goal

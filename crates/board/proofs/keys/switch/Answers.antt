@@ -1,6 +1,5 @@
 -- The place that `slot_of` answers decides, in code and definition alike.
-use mathlib.Core.Path.{sym, ◌∙◌}
-use Rattle.std.proofs.Common.{rules}
+use mathlib.Core.Path.{sym}
 use Rattle.board.specs.Requests.{switch}
 use Rattle.board.proofs.keys.switch.Goals as goal
 

@@ -1,7 +1,6 @@
 -- The one test is the definition's, with the next mark as `next_mark` answers it.
 use mathlib.Core.Path.{◌≡◌}
 use native.Mathlib.Omega.{arith}
-use Rattle.std.proofs.Common.{rules}
 use borrow.Author.Tests.{eq-eqb, ne_eqb}
 use Rattle.board.specs.Mark.{next_mark, move_mark}
 use Rattle.board.proofs.mark.move_mark.Goals as goal

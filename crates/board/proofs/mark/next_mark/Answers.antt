@@ -1,5 +1,4 @@
 -- What is left up to the top, compared with a step, tells which of the two is less.
-use native.Mathlib.Omega.{arith}
 use Rattle.std.proofs.Common.{rules}
 use Rattle.board.specs.Mark.{next_mark}
 use Rattle.board.proofs.mark.next_mark.Goals as goal

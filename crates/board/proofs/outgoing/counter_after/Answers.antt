@@ -1,6 +1,5 @@
 -- A sealed frame raises the counter unless it is at its top, as `raised` does; a refusal leaves it.
 use borrow.Author.Tests.{eq-eqb, ne_eqb}
-use Rattle.std.proofs.Common.{rules}
 use Rattle.board.proofs.outgoing.counter_after.Goals as goal
 
 pub returns-then-counter-eq-TOP : goal.returns-then-counter-eq-TOP

@@ -1,6 +1,5 @@
 -- The test of the octets is the definition's; both arms are promises of what is called.
 use mathlib.Core.Path.{sym, ◌∙◌}
-use Rattle.std.proofs.Common.{rules}
 use Rattle.board.proofs.partners.add_again.Goals as goal
 
 pub returns-then-has_key : goal.returns-then-has_key

@@ -1,6 +1,5 @@
 -- The address is judged first, then the place that `link_of` answers decides, in code and definition alike.
 use mathlib.Core.Path.{sym, ◌∙◌}
-use Rattle.std.proofs.Common.{rules}
 use Rattle.board.specs.Requests.{add_link}
 use Rattle.board.proofs.Found.{link-place}
 use Rattle.board.proofs.partners.add_link.Goals as goal

@@ -1,6 +1,5 @@
 -- The place that `free_link` answers is the definition's; that it is an entry is what a search tells of its answer.
-use mathlib.Core.Path.{sym, ◌∙◌}
-use Rattle.std.proofs.Common.{rules}
+use mathlib.Core.Path.{sym}
 use Rattle.board.proofs.Found.{free-place}
 use Rattle.board.proofs.partners.add_new.Goals as goal
 

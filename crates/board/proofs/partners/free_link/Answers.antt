@@ -1,9 +1,5 @@
-use mathlib.Core.Path.{◌≡◌, refl, sym, ◌∙◌}
-use mathlib.Core.Bool.{not}
-use Prim.Native.Nat.{◌-◌, ◌≤◌}
+use mathlib.Core.Path.{refl, sym, ◌∙◌}
 use Rattle.std.proofs.Common.{rules}
-use Rattle.board.specs.Places.{first_at}
-use Rattle.board.specs.State.{link_at}
 use Rattle.board.specs.Requests.{free_link}
 use Rattle.board.proofs.Found.{first-hit, first-miss, first_done}
 use Rattle.board.proofs.partners.free_link.Goals as goal

@@ -1,12 +1,10 @@
 -- What is left to look at finds the same entry as the whole: a free one ends the search, another moves it on.
-use mathlib.Core.Path.{◌≡◌, refl, sym, ◌∙◌}
+use mathlib.Core.Path.{◌≡◌}
 use mathlib.Core.Bool.{not}
 use Prim.Native.Nat.{◌-◌, ◌≤◌}
-use Rattle.std.proofs.Common.{rules}
 use Rattle.board.specs.Places.{first_at}
 use Rattle.board.specs.State.{link_at}
 use Rattle.board.specs.Requests.{free_link}
-use Rattle.board.proofs.Found.{first-hit, first-miss, first_done}
 use Rattle.board.proofs.partners.free_link.Given as goal
 
 abbrev pub invariant-loop-i : goal.invariant-loop-i

@@ -1,8 +1,5 @@
-use mathlib.Core.Path.{◌≡◌, refl, sym, ◌∙◌}
-use Prim.Native.Nat.{◌-◌, ◌≤◌}
+use mathlib.Core.Path.{refl, sym, ◌∙◌}
 use Rattle.std.proofs.Common.{rules}
-use Rattle.board.specs.Places.{first_at}
-use Rattle.board.specs.State.{link_at, pairs}
 use Rattle.board.specs.Requests.{link_of}
 use Rattle.board.proofs.Found.{first-hit, first-miss, first_done}
 use Rattle.board.proofs.partners.link_of.Goals as goal
@@ -17,12 +14,11 @@ returns-then-pairs_with c =
     (sym c.pairs_with.ensures ∙ c.if-pairs_with.true))
 
 pub loop-i-preserved : goal.loop-i-preserved
-loop-i-preserved c =
-    (
-      search rules,
-      c.loop-i.invariant.1 ∙ first-miss _ c.loop-i.i 8 c.loop-i-test.true
-          (sym c.pairs_with.ensures ∙ c.if-pairs_with.false),
-    )
+loop-i-preserved c = (
+  search rules,
+  c.loop-i.invariant.1 ∙ first-miss _ c.loop-i.i 8 c.loop-i-test.true
+      (sym c.pairs_with.ensures ∙ c.if-pairs_with.false),
+)
 
 pub returns : goal.returns
 returns c = sym (c.loop-i.invariant.1 ∙ first_done _ c.loop-i.i 8 c.loop-i-test.false)

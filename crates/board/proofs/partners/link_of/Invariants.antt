@@ -1,11 +1,9 @@
 -- What is left to look at finds the same entry as the whole: a pair ends the search, another moves it on.
-use mathlib.Core.Path.{◌≡◌, refl, sym, ◌∙◌}
+use mathlib.Core.Path.{◌≡◌}
 use Prim.Native.Nat.{◌-◌, ◌≤◌}
-use Rattle.std.proofs.Common.{rules}
 use Rattle.board.specs.Places.{first_at}
 use Rattle.board.specs.State.{link_at, pairs}
 use Rattle.board.specs.Requests.{link_of}
-use Rattle.board.proofs.Found.{first-hit, first-miss, first_done}
 use Rattle.board.proofs.partners.link_of.Given as goal
 
 abbrev pub invariant-loop-i : goal.invariant-loop-i

@@ -1,5 +1,4 @@
 -- The entry made here is `added`; all else is the promise of `with_link`.
-use Rattle.std.proofs.Common.{rules}
 use Rattle.board.proofs.partners.put_link.Goals as goal
 
 pub returns : goal.returns

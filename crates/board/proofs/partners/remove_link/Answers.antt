@@ -1,6 +1,5 @@
 -- Address 0 is judged first, then the place that `link_of` answers decides, in code and definition alike.
-use mathlib.Core.Path.{sym, ◌∙◌}
-use Rattle.std.proofs.Common.{rules}
+use mathlib.Core.Path.{sym}
 use borrow.Author.Tests.{eq-eqb, ne_eqb}
 use Rattle.board.specs.Requests.{remove_link}
 use Rattle.board.proofs.Found.{link-place}

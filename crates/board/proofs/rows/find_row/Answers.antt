@@ -1,5 +1,5 @@
 use mathlib.Core.Path.{◌≡◌, sym, ap, ◌∙◌}
-use Prim.Native.Nat.{◌+◌, ◌-◌, ◌≤◌, min}
+use Prim.Native.Nat.{◌+◌, ◌-◌, min}
 use native.Mathlib.Omega.{arith}
 use lib.Dec.{eqb}
 use lib.ListN.{length, get_or}
@@ -31,13 +31,12 @@ returns-then-addrs-i c =
     (eq-eqb _ _ c.if-addrs-i.true))
 
 pub loop-i-preserved : goal.loop-i-preserved
-loop-i-preserved c =
-    (
+loop-i-preserved c = (
   search rules,
   search rules,
   c.loop-i.invariant.2 ∙ first-miss _ c.loop-i.i _ c.loop-i-test.true
       (ne_eqb _ _ c.if-addrs-i.false),
-    )
+)
 
 pub returns : goal.returns
 returns c = sym (c.loop-i.invariant.2 ∙ first_done _ c.loop-i.i _ c.loop-i-test.false)

@@ -1,14 +1,10 @@
 -- What is left to look at finds the same row as the whole: a hit ends the search, a miss moves it on by one row.
-use mathlib.Core.Path.{◌≡◌, sym, ap, ◌∙◌}
-use Prim.Native.Nat.{◌+◌, ◌-◌, ◌≤◌, min}
-use native.Mathlib.Omega.{arith}
+use mathlib.Core.Path.{◌≡◌}
+use Prim.Native.Nat.{◌-◌, ◌≤◌}
 use lib.Dec.{eqb}
 use lib.ListN.{length, get_or}
-use Rattle.std.proofs.Common.{rules}
-use borrow.Author.Tests.{eq-eqb, ne_eqb}
 use Rattle.board.specs.Places.{first_at}
 use Rattle.board.specs.Rows.{find_row}
-use Rattle.board.proofs.Found.{first-hit, first-miss, first_done}
 use Rattle.board.proofs.rows.find_row.Given as goal
 
 abbrev pub invariant-loop-i : goal.invariant-loop-i

@@ -3,8 +3,7 @@ use mathlib.Core.Path.{sym, ◌∙◌}
 use Prim.Native.Nat.{◌/◌}
 use native.Mathlib.Omega.{arith}
 use lib.ListN.{length}
-use Rattle.std.proofs.Common.{rules}
-use borrow.Author.Tests.{eq-eqb, ne_eqb, lt-ltb, le-ltb, not-true, not-false}
+use borrow.Author.Tests.{eq-eqb, ne_eqb, lt-ltb, le-ltb}
 use Rattle.board.specs.Requests.{forget}
 use Rattle.board.proofs.Halves.{slot-start}
 use Rattle.board.proofs.rows.forget.Goals as goal
@@ -29,7 +28,7 @@ returns-then-sender-eq0 c =
 pub overflow_mul-slot : goal.overflow_mul-slot
 overflow_mul-slot c =
     let low = slot-start (length c.args.addrs.now / 2) c.args.slot (omega (arith, c.if-slot-gt1.false)) in
-    record { fits = omega (arith, low, c.good.0.0) }
+    record { fits = omega (arith, low) }
 
 pub returns-in-At : goal.returns-in-At
 unfolding forget
@@ -39,8 +38,8 @@ returns-in-At c =
       le-ltb _ _ c.if-slot-gt1.false,
       ne_eqb _ _ c.if-sender-eq0.false,
       sym c.in-At.ensures,
-      c.put_row.ensures.0,
-      c.put_row.ensures.1,
+      c.put_row.ensures.addrs_after,
+      c.put_row.ensures.floors_after,
     )
 
 pub returns-in-Absent : goal.returns-in-Absent

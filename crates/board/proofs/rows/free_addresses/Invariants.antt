@@ -1,11 +1,8 @@
 -- After j turns the first j of the n rows are zero; after n of them the list is the freed one.
-use mathlib.Core.Path.{◌≡◌, refl, ap, ◌∙◌}
+use mathlib.Core.Path.{◌≡◌}
 use Prim.Native.Nat.{◌+◌, ◌-◌, ◌≤◌}
-use native.Mathlib.Omega.{arith}
-use lib.ListN.{length, length-set, replicate, set}
+use lib.ListN.{length, replicate}
 use lib.Seq.{paste-zero}
-use Rattle.std.proofs.Common.{rules}
-use Rattle.board.proofs.Cleared.{zeroed-more, zeroed-all}
 use Rattle.board.proofs.rows.free_addresses.Given as goal
 
 abbrev pub invariant-loop-j : goal.invariant-loop-j

@@ -1,7 +1,7 @@
 use mathlib.Core.Path.{◌≡◌, refl, ap, ◌∙◌}
-use Prim.Native.Nat.{◌+◌, ◌-◌, ◌≤◌}
+use Prim.Native.Nat.{◌+◌}
 use native.Mathlib.Omega.{arith}
-use lib.ListN.{length, length-set, replicate, set}
+use lib.ListN.{length-set, replicate, set}
 use lib.Seq.{paste-zero}
 use Rattle.std.proofs.Common.{rules}
 use Rattle.board.proofs.Cleared.{zeroed-more, zeroed-all}

@@ -1,7 +1,6 @@
 -- Where the list has no such row, `set` changes nothing either.
 use mathlib.Core.Path.{sym}
 use lib.Seq.{set_out}
-use Rattle.std.proofs.Common.{rules}
 use Rattle.board.proofs.rows.put_floor.Goals as goal
 
 pub returns-else-r-l : goal.returns-else-r-l

@@ -1,5 +1,4 @@
 -- The array of eight such links is the definition's list.
-use Rattle.std.proofs.Common.{rules}
 use Rattle.board.proofs.state.fresh_board.Goals as goal
 
 pub returns : goal.returns

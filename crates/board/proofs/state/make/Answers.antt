@@ -1,6 +1,5 @@
 -- The one test is the definition's, and each board is a promise of `fresh_board`.
 use mathlib.Core.Path.{sym, ◌∙◌}
-use Rattle.std.proofs.Common.{rules}
 use Rattle.board.specs.Requests.{make}
 use Rattle.board.proofs.state.make.Goals as goal
 

@@ -1,8 +1,7 @@
 -- Each return is the test of the same place in `read_header`; the control field is the one number that all of them look at.
 use mathlib.Core.Path.{sym, ◌∙◌}
-use borrow.Author.Tests.{lt-ltb, le-ltb, not-true, not-false}
+use borrow.Author.Tests.{lt-ltb, le-ltb}
 use Rattle.frames.specs.Reading.{read_header}
-use Rattle.std.proofs.Common.{rules}
 use Rattle.frames.proofs.aps_header.read.Goals as goal
 
 pub returns-then-f-lt1 : goal.returns-then-f-lt1

@@ -1,5 +1,4 @@
 -- Each layer's bit is taken off where it stands, as `cleared` says.
-use Rattle.std.proofs.Common.{rules}
 use Rattle.frames.specs.Making.{cleared}
 use Rattle.frames.proofs.making.clear.Goals as goal
 

@@ -1,7 +1,6 @@
 -- Where either is too short nothing is laid; else the first n octets are, and the octet i is set where it is one of them.
 use mathlib.Core.Path.{sym}
 use lib.Seq.{length-take-le}
-use Rattle.std.proofs.Common.{rules}
 use Rattle.frames.proofs.Layings.{laid-short, laid-tight, laid_in, laid_out}
 use Rattle.frames.proofs.making.lay.Goals as goal
 

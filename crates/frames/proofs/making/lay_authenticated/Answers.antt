@@ -1,6 +1,5 @@
 -- `lay` puts the security control with its level in place h: the octets that it lays are `authenticated`.
 use mathlib.Core.Path.{refl}
-use Rattle.std.proofs.Common.{rules}
 use Rattle.settings.specs.Settings.{ours}
 use Rattle.frames.specs.Security.{with_level, authenticated}
 use Rattle.frames.proofs.Layings.{laid-over}

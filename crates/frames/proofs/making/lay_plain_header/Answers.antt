@@ -1,5 +1,4 @@
 -- `lay` puts the cleared octet in the bit's place: the octets that it lays are `plain_header`.
-use Rattle.std.proofs.Common.{rules}
 use Rattle.frames.specs.Making.{bit_value, cleared, plain_header}
 use Rattle.frames.proofs.Layings.{laid-over}
 use Rattle.frames.proofs.making.lay_plain_header.Goals as goal

@@ -1,5 +1,4 @@
 -- `lay` puts the marked octet in the bit's place: the octets that it lays are `secured_header`.
-use Rattle.std.proofs.Common.{rules}
 use Rattle.frames.specs.Making.{bit_value, marked, secured_header}
 use Rattle.frames.proofs.Layings.{laid-over}
 use Rattle.frames.proofs.making.lay_secured_header.Goals as goal

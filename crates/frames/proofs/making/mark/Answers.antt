@@ -1,5 +1,4 @@
 -- Each layer's bit is cleared and then added, as `marked` says.
-use Rattle.std.proofs.Common.{rules}
 use Rattle.frames.specs.Making.{cleared, marked}
 use Rattle.frames.proofs.making.mark.Goals as goal
 

@@ -1,5 +1,4 @@
 -- The bit of a source route is the definition's test; its count stands where `base` says.
-use Rattle.std.proofs.Common.{rules}
 use borrow.Author.Tests.{eq-eqb, ne_eqb}
 use Rattle.frames.specs.Network.{network_header}
 use Rattle.frames.proofs.network_header.header_length.Goals as goal

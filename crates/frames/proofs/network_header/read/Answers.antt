@@ -1,9 +1,8 @@
 -- Each return is the test of the same place in `read_header`; the control field is the one number that all of them look at.
 use mathlib.Core.Path.{sym, ◌∙◌}
-use borrow.Author.Tests.{lt-ltb, le-ltb, not-true, not-false}
+use borrow.Author.Tests.{lt-ltb, le-ltb}
 use Rattle.frames.specs.Reading.{read_header}
 use Rattle.frames.specs.Network.{network_control}
-use Rattle.std.proofs.Common.{rules}
 use Rattle.frames.proofs.network_header.read.Goals as goal
 
 pub returns-then-f-lt2 : goal.returns-then-f-lt2

@@ -1,5 +1,4 @@
 -- Each field is read where `announced` reads it.
-use Rattle.std.proofs.Common.{rules}
 use Rattle.frames.specs.Security.{counter_of}
 use Rattle.frames.specs.Reading.{announced}
 use Rattle.frames.proofs.reading.announce.Goals as goal

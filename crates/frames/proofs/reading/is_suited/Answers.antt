@@ -1,5 +1,4 @@
 -- Each layer asks its own rule of the identifier, and of the nonce bit where it has one.
-use Rattle.std.proofs.Common.{rules}
 use Rattle.frames.proofs.reading.is_suited.Goals as goal
 
 pub returns-in-Network : goal.returns-in-Network

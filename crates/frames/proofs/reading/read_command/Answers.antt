@@ -4,7 +4,6 @@ use borrow.Author.Tests.{eq-eqb, ne_eqb, lt-ltb, le-ltb}
 use Rattle.frames.specs.Aps.{aps_type}
 use Rattle.frames.specs.Reading.{reading_command}
 use Rattle.frames.specs.Code.{told_heading}
-use Rattle.std.proofs.Common.{rules}
 use Rattle.frames.proofs.reading.read_command.Goals as goal
 
 pub returns-then-frame-h : goal.returns-then-frame-h

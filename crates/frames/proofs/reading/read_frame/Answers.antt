@@ -1,6 +1,5 @@
 -- What the header told decides; where it was read, the security bit says how the rest is read.
 use mathlib.Core.Path.{sym, ap, ◌∙◌}
-use Rattle.std.proofs.Common.{rules}
 use Rattle.frames.specs.Reading.{reading}
 use Rattle.frames.specs.Code.{told_heading}
 use Rattle.frames.proofs.reading.read_frame.Goals as goal

@@ -1,5 +1,4 @@
 -- A layer is read by its own module.
-use Rattle.std.proofs.Common.{rules}
 use Rattle.frames.proofs.reading.read_header.Goals as goal
 
 pub returns-in-Network : goal.returns-in-Network

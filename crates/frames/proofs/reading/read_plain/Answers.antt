@@ -3,7 +3,6 @@ use mathlib.Core.Path.{sym, ap, ◌∙◌}
 use borrow.Author.Tests.{lt-ltb, le-ltb}
 use Rattle.frames.specs.Reading.{reading_plain}
 use Rattle.frames.specs.Code.{told_heading}
-use Rattle.std.proofs.Common.{rules}
 use Rattle.frames.proofs.reading.read_plain.Goals as goal
 
 pub returns-then-secured : goal.returns-then-secured

@@ -1,5 +1,4 @@
 -- Control at 0, counter at 1, sender at 5 and sequence number at 13 fill the 14 octets in the header's order.
-use Rattle.std.proofs.Common.{rules}
 use Rattle.frames.proofs.security.aux_fields.Goals as goal
 
 pub returns : goal.returns

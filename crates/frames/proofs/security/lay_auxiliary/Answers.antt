@@ -1,7 +1,6 @@
 -- With identifier 1 all 14 fields are the header; else the first 13, which leave the sequence number out.
 use mathlib.Core.Path.{ap, ◌∙◌}
 use Prim.Native.Nat.{◌%◌}
-use Rattle.std.proofs.Common.{rules}
 use Rattle.octets.specs.Lists.{pasted}
 use Rattle.frames.proofs.Sent.{fields-numbered, fields-unnumbered}
 use Rattle.frames.proofs.security.lay_auxiliary.Goals as goal

@@ -1,5 +1,4 @@
 -- Sender at 0, counter at 8 and control at 12 fill the 13 octets in the definition's order.
-use Rattle.std.proofs.Common.{rules}
 use Rattle.frames.specs.Security.{nonce_of}
 use Rattle.frames.proofs.security.nonce.Goals as goal
 

@@ -1,5 +1,4 @@
 -- The bit of the extended nonce is the definition's test.
-use Rattle.std.proofs.Common.{rules}
 use borrow.Author.Tests.{eq-eqb, ne_eqb}
 use Rattle.frames.specs.Security.{sender_of}
 use Rattle.frames.proofs.security.sender.Goals as goal

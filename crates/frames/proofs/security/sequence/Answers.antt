@@ -1,5 +1,4 @@
 -- Identifier and extended nonce are those of the definition, which tests the one and counts by the other.
-use Rattle.std.proofs.Common.{rules}
 use borrow.Author.Tests.{eq-eqb, ne_eqb}
 use Rattle.frames.specs.Security.{sequence_of}
 use Rattle.frames.proofs.security.sequence.Goals as goal

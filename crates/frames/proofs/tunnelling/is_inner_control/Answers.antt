@@ -1,7 +1,6 @@
 -- The four tests in the definition's order; each that fails answers, and the last is the answer.
 use mathlib.Core.Path.{sym, ◌∙◌}
-use Rattle.std.proofs.Common.{rules}
-use borrow.Author.Tests.{eq-eqb, ne_eqb, not-true, not-false}
+use borrow.Author.Tests.{eq-eqb, ne_eqb}
 use Rattle.frames.specs.Aps.{aps_type, ack_request}
 use Rattle.frames.specs.Tunnelling.{inner_control}
 use Rattle.frames.proofs.tunnelling.is_inner_control.Goals as goal

@@ -1,7 +1,5 @@
 -- The identifier first, then the nonce bit.
 use mathlib.Core.Path.{sym, ◌∙◌}
-use Rattle.std.proofs.Common.{rules}
-use borrow.Author.Tests.{not-true, not-false}
 use Rattle.frames.specs.Tunnelling.{inner_security}
 use Rattle.frames.proofs.tunnelling.is_inner_security.Goals as goal
 

@@ -1,7 +1,5 @@
 -- The control first, then the security control.
 use mathlib.Core.Path.{sym, ◌∙◌}
-use Rattle.std.proofs.Common.{rules}
-use borrow.Author.Tests.{not-true, not-false}
 use Rattle.frames.specs.Tunnelling.{may_tunnel}
 use Rattle.frames.proofs.tunnelling.may_tunnel.Goals as goal
 
