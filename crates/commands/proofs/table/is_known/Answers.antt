@@ -1,0 +1,35 @@
+-- Each arm is one of the definition's tests; in the last, none of them is left.
+use Rattle.std.proofs.Common.{rules, ne_eqb}
+use Rattle.commands.specs.Table.{known}
+use Rattle.commands.proofs.table.is_known.Goals as goal
+
+pub returns-in-Clear : goal.returns-in-Clear
+unfolding known
+returns-in-Clear c = simp c.in-Clear.is
+
+pub returns-in-0 : goal.returns-in-0
+unfolding known
+returns-in-0 c = simp (c.in-0.is, c.in-Under.is)
+
+pub returns-in-1 : goal.returns-in-1
+unfolding known
+returns-in-1 c = simp (c.in-1.is, c.in-Under.is)
+
+pub returns-in-2 : goal.returns-in-2
+unfolding known
+returns-in-2 c = simp (c.in-2.is, c.in-Under.is)
+
+pub returns-in-3 : goal.returns-in-3
+unfolding known
+returns-in-3 c = simp (c.in-3.is, c.in-Under.is)
+
+pub returns-in-4-to-255 : goal.returns-in-4-to-255
+unfolding known
+returns-in-4-to-255 c =
+    simp (
+      ne_eqb _ _ c.in-4-to-255.rest.1,
+      ne_eqb _ _ c.in-4-to-255.rest.0.1,
+      ne_eqb _ _ c.in-4-to-255.rest.0.0.1,
+      ne_eqb _ _ c.in-4-to-255.rest.0.0.0.1,
+      c.in-Under.is,
+    )
