@@ -1,6 +1,6 @@
 -- Annex B.6 of source document 002, and 01, "Hash" (RULES 10): the Matyas-Meyer-Oseas hash over AES-128, and HMAC (FIPS 198) over it.
 -- Assumes nothing.
-use Rattle.std.specs.Prelude.{List, ◌∷◌, ◌++◌, ℕ, ◌+◌, ◌-◌, ◌*◌, ◌%◌, length, replicate}
+use Rattle.std.specs.Prelude.{List, ◌∷◌, ◌++◌, ℕ, ◌-◌, ◌*◌, ◌%◌, length, replicate}
 use Rattle.std.specs.Int.Bits.{bit_xor}
 use Rattle.octets.specs.Lists.{at, tab}
 use Rattle.cipher.specs.Aes.{aes128, add_blocks}

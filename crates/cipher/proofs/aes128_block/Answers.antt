@@ -1,5 +1,4 @@
 -- What was lent is the S-box, and the round keys are those of the key: under them `encipher` gives the definition's block.
-use Rattle.std.proofs.Common.{rules}
 use Rattle.cipher.specs.Aes.{aes128}
 use Rattle.cipher.proofs.aes128_block.Goals as goal
 

@@ -1,5 +1,4 @@
 -- The limit of 256 octets is the definition's; where nothing went before d, what `hash_from` pads is the plain padding.
-use Rattle.std.proofs.Common.{rules}
 use borrow.Author.Tests.{le-leb}
 use Rattle.octets.proofs.Choices.{tests}
 use Rattle.cipher.specs.Answers.{hashing}

@@ -1,5 +1,4 @@
 -- The limit of 240 octets is the definition's; it is below the 256 that `keyed_hash_of`, which makes the hash, asks for.
-use Rattle.std.proofs.Common.{rules}
 use borrow.Author.Tests.{le-leb}
 use Rattle.octets.proofs.Choices.{tests}
 use Rattle.cipher.specs.Answers.{keyed_hashing}

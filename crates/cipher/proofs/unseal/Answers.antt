@@ -1,8 +1,7 @@
 -- The returns are the tests of `opening`, in its order. An allowed tag has at most 16 octets, so 128 + m does not overflow.
 use mathlib.Core.Path.{sym, ◌∙◌}
 use native.Mathlib.Omega.{arith}
-use Rattle.std.proofs.Common.{rules}
-use borrow.Author.Tests.{le-leb, lt-leb, not-true, not-false}
+use borrow.Author.Tests.{le-leb, lt-leb}
 use Rattle.cipher.specs.Answers.{opening}
 use Rattle.cipher.specs.Aes.{aes128}
 use Rattle.cipher.proofs.Opens.{tag-most}

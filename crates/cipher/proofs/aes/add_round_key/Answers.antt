@@ -1,6 +1,5 @@
 -- The words of the key are added to those of the state.
 use mathlib.Core.Path.{ap, ◌∙◌}
-use Rattle.std.proofs.Common.{rules}
 use Rattle.cipher.specs.Aes.{add_blocks, add_round_key}
 use Rattle.cipher.specs.Code.{block_of}
 use Rattle.cipher.proofs.aes.add_round_key.Goals as goal

@@ -1,11 +1,8 @@
 -- The loop keeps: the words s are the state after i rounds from the block with the first key added; nine lead to the last round.
-use mathlib.Core.Path.{◌≡◌, refl}
+use mathlib.Core.Path.{◌≡◌}
 use Prim.Native.Nat.{◌-◌, ◌≤◌}
-use native.Mathlib.Omega.{arith}
-use Rattle.std.proofs.Common.{rules}
-use Rattle.cipher.specs.Aes.{rounds, cipher}
+use Rattle.cipher.specs.Aes.{rounds}
 use Rattle.cipher.specs.Code.{block_of}
-use Rattle.cipher.proofs.Rounds.{rounds-more}
 use Rattle.cipher.proofs.aes.encipher.Given as goal
 
 abbrev pub invariant-loop-i : goal.invariant-loop-i

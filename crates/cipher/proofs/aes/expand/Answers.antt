@@ -1,8 +1,8 @@
 use mathlib.Core.Path.{◌≡◌, refl, ap, ◌∙◌}
-use mathlib.Core.List.{List, []}
-use Prim.Native.Nat.{ℕ, ◌+◌, ◌-◌, ◌≤◌}
+use mathlib.Core.List.{List}
+use Prim.Native.Nat.{ℕ}
 use Rattle.std.proofs.Common.{rules}
-use Rattle.octets.proofs.Filled.{one, Filled, more, all}
+use Rattle.octets.proofs.Filled.{one, more, all}
 use Rattle.octets.proofs.Tabs.{get_or-tab}
 use Rattle.octets.specs.Lists.{at}
 use Rattle.cipher.specs.Aes.{key_at, rcon, key_expansion}
@@ -17,7 +17,7 @@ pub loop-i-preserved : goal.loop-i-preserved
 loop-i-preserved c =
     let l = c.loop-i in
     let constant : at c.args.rc.now l.i ≡ rcon l.i
-    = ap (λ (t : List ℕ). at t l.i) c.requires.1 ∙ get_or-tab 10 rcon l.i 0 (search rules) in
+    = ap (λ (t : List ℕ). at t l.i) c.requires.rc_value ∙ get_or-tab 10 rcon l.i 0 (search rules) in
     let next = key_more c.args.key l.i in
     (search rules, cc (constant, next), more _ _ _ _ _ _ l.invariant.2 (search rules) (cc (constant, next)))
 

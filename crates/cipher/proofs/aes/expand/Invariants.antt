@@ -1,13 +1,9 @@
 -- The loop keeps: k is round key i, and w holds the round keys up to i. Entry i of the table lent makes the next one.
-use mathlib.Core.Path.{◌≡◌, refl, ap, ◌∙◌}
-use mathlib.Core.List.{List, []}
-use Prim.Native.Nat.{ℕ, ◌+◌, ◌-◌, ◌≤◌}
-use Rattle.std.proofs.Common.{rules}
-use Rattle.octets.proofs.Filled.{one, Filled, more, all}
-use Rattle.octets.proofs.Tabs.{get_or-tab}
-use Rattle.octets.specs.Lists.{at}
-use Rattle.cipher.specs.Aes.{key_at, rcon, key_expansion}
-use Rattle.cipher.proofs.Rounds.{key_more}
+use mathlib.Core.Path.{◌≡◌}
+use mathlib.Core.List.{[]}
+use Prim.Native.Nat.{◌+◌, ◌-◌, ◌≤◌}
+use Rattle.octets.proofs.Filled.{Filled}
+use Rattle.cipher.specs.Aes.{key_at}
 use Rattle.cipher.proofs.aes.expand.Given as goal
 
 abbrev pub invariant-loop-i : goal.invariant-loop-i

@@ -1,5 +1,4 @@
 -- The definition's three steps, of which the last adds words.
-use Rattle.std.proofs.Common.{rules}
 use Rattle.cipher.specs.Aes.{last_round}
 use Rattle.cipher.proofs.aes.last_round.Goals as goal
 

@@ -1,5 +1,4 @@
 -- The calls give what `column-mixed` asks for.
-use Rattle.std.proofs.Common.{rules}
 use Rattle.cipher.proofs.Mixing.{column-mixed}
 use Rattle.cipher.proofs.aes.mix_column.Goals as goal
 

@@ -1,6 +1,5 @@
 -- Each column is mixed by itself.
 use mathlib.Core.Path.{ap, ◌∙◌}
-use Rattle.std.proofs.Common.{rules}
 use Rattle.cipher.specs.Aes.{mix_columns}
 use Rattle.cipher.specs.Code.{mixed_column}
 use Rattle.cipher.proofs.Lanes.{append-four}

@@ -1,5 +1,4 @@
 -- The word that is spread over the key is the one that `turned_word` made of the same key.
-use Rattle.std.proofs.Common.{rules}
 use Rattle.cipher.specs.Aes.{next_key}
 use Rattle.cipher.proofs.aes.next_key.Goals as goal
 

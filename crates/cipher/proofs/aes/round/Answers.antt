@@ -1,5 +1,4 @@
 -- The calls are the definition's four steps, each taking what the one before gave.
-use Rattle.std.proofs.Common.{rules}
 use Rattle.cipher.specs.Aes.{round_of}
 use Rattle.cipher.proofs.aes.round.Goals as goal
 

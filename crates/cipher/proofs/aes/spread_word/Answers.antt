@@ -1,6 +1,5 @@
 -- Each word is added to the one made before it.
 use mathlib.Core.Path.{refl, ◌∙◌}
-use Rattle.std.proofs.Common.{rules}
 use Rattle.cipher.proofs.Lanes.{append-four, spelled-sum}
 use Rattle.cipher.proofs.aes.spread_word.Goals as goal
 
@@ -10,4 +9,4 @@ returns c =
     let b = spelled-sum _ _ c.word-2.ensures a in
     let d = spelled-sum _ _ c.word-3.ensures b in
     let e = spelled-sum _ _ c.word-4.ensures d in
-    c.Block-of.ensures ∙ append-four a b d e
+    c.block_of.ensures ∙ append-four a b d e

@@ -1,5 +1,4 @@
 -- The two steps, of the octets of the state.
-use Rattle.std.proofs.Common.{rules}
 use Rattle.cipher.proofs.aes.sub_and_shift.Goals as goal
 
 pub returns : goal.returns

@@ -1,7 +1,6 @@
 -- What was lent is the S-box, and every octet is a place of its 256.
 use mathlib.Core.Path.{ap}
 use lib.ListN.{get_or}
-use Rattle.std.proofs.Common.{rules}
 use Rattle.cipher.specs.Sbox.{sbox}
 use Rattle.cipher.proofs.aes.sub_byte.Goals as goal
 

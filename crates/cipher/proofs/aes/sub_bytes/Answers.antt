@@ -1,9 +1,6 @@
 use mathlib.Core.Path.{refl}
-use Prim.Native.Nat.{◌-◌}
 use Rattle.std.proofs.Common.{rules}
-use Rattle.octets.proofs.Filled.{Filled, none, more, all}
-use Rattle.octets.specs.Lists.{at}
-use Rattle.cipher.specs.Sbox.{sbox}
+use Rattle.octets.proofs.Filled.{none, more, all}
 use Rattle.cipher.specs.Aes.{sub_bytes}
 use Rattle.cipher.proofs.aes.sub_bytes.Goals as goal
 

@@ -1,11 +1,8 @@
 -- The loop keeps: the first i octets of t are what the S-box makes of those of s.
-use mathlib.Core.Path.{refl}
 use Prim.Native.Nat.{◌-◌}
-use Rattle.std.proofs.Common.{rules}
-use Rattle.octets.proofs.Filled.{Filled, none, more, all}
+use Rattle.octets.proofs.Filled.{Filled}
 use Rattle.octets.specs.Lists.{at}
 use Rattle.cipher.specs.Sbox.{sbox}
-use Rattle.cipher.specs.Aes.{sub_bytes}
 use Rattle.cipher.proofs.aes.sub_bytes.Given as goal
 
 abbrev pub invariant-loop-i : goal.invariant-loop-i

@@ -1,7 +1,6 @@
 -- Octets 13, 14, 15 and 12 are the last word turned by one place; behind its first octet the constant adds only zeros.
 use mathlib.Core.Path.{◌∙◌}
 use lib.Bits.{xor_zero_r}
-use Rattle.std.proofs.Common.{rules}
 use Rattle.cipher.specs.Aes.{turned_word}
 use Rattle.cipher.proofs.aes.turned_word.Goals as goal
 

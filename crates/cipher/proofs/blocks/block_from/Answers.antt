@@ -2,7 +2,6 @@
 use Prim.Native.Nat.{◌+◌, ◌-◌}
 use native.Mathlib.Omega.{arith}
 use lib.ListN.{length}
-use Rattle.std.proofs.Common.{rules}
 use Rattle.cipher.proofs.Parsed.{block-laid}
 use Rattle.cipher.proofs.blocks.block_from.Goals as goal
 

@@ -1,5 +1,4 @@
 -- What is enciphered is the sum of x and b that `add_blocks` answers.
-use Rattle.std.proofs.Common.{rules}
 use Rattle.cipher.specs.Ccm.{absorbed}
 use Rattle.cipher.proofs.ccm.absorb.Goals as goal
 

@@ -1,6 +1,6 @@
-use mathlib.Core.Path.{◌≡◌, refl, sym, ap, ◌∙◌}
-use Prim.Native.Nat.{◌+◌, ◌-◌, ◌≤◌}
-use lib.ListN.{length, drop}
+use mathlib.Core.Path.{refl, sym, ap, ◌∙◌}
+use Prim.Native.Nat.{◌+◌}
+use lib.ListN.{drop}
 use Rattle.std.proofs.Common.{rules}
 use Rattle.cipher.specs.Aes.{cipher}
 use Rattle.cipher.specs.Blocks.{blocks, over}
@@ -14,8 +14,7 @@ loop-i-init c = (search rules, refl)
 pub loop-i-preserved : goal.loop-i-preserved
 loop-i-preserved c =
     let x = c.args in
-    let l = c.loop-i in
-    (
+    let l = c.loop-i in (
       search rules,
       l.invariant.1 ∙ over-next (absorbed (cipher x.w.now)) l.y x.d.now l.i c.loop-i-test.true ∙ ap
           (λ y. over (absorbed (cipher x.w.now)) y (blocks (drop (l.i + 16) x.d.now)))

@@ -1,12 +1,10 @@
 -- The loop keeps: the chain from y over the blocks from i on ends as the whole one does; at the end of d no block is left.
-use mathlib.Core.Path.{◌≡◌, refl, sym, ap, ◌∙◌}
+use mathlib.Core.Path.{◌≡◌}
 use Prim.Native.Nat.{◌+◌, ◌-◌, ◌≤◌}
 use lib.ListN.{length, drop}
-use Rattle.std.proofs.Common.{rules}
 use Rattle.cipher.specs.Aes.{cipher}
 use Rattle.cipher.specs.Blocks.{blocks, over}
 use Rattle.cipher.specs.Ccm.{absorbed}
-use Rattle.cipher.proofs.Chains.{over-next, over-end}
 use Rattle.cipher.proofs.ccm.absorb_from.Given as goal
 
 abbrev pub invariant-loop-i : goal.invariant-loop-i

@@ -1,7 +1,6 @@
 -- The first block of L(a) || a has the count and 14 octets of a, so the others are the blocks of a from place 14 on.
 use mathlib.Core.Path.{sym}
 use native.Mathlib.Omega.{arith}
-use Rattle.std.proofs.Common.{rules}
 use Rattle.cipher.specs.Aes.{cipher}
 use Rattle.cipher.specs.Ccm.{absorbed}
 use Rattle.cipher.proofs.Chains.{over-empty, led-by}

@@ -1,5 +1,4 @@
 -- What is enciphered is the counter block Ai: flags 1, which is L - 1, nonce and i.
-use Rattle.std.proofs.Common.{rules}
 use Rattle.cipher.specs.Ccm.{key_stream}
 use Rattle.cipher.proofs.ccm.key_stream.Goals as goal
 

@@ -1,5 +1,4 @@
 -- B0 added to zeros is B0, so the chain starts with B0 enciphered; `absorb_led`, then `absorb_from`, take in the rest in order.
-use Rattle.std.proofs.Common.{rules}
 use Rattle.cipher.specs.Aes.{cipher}
 use Rattle.cipher.proofs.Chains.{mac-of-calls}
 use Rattle.cipher.proofs.ccm.mac_of.Goals as goal

@@ -1,5 +1,4 @@
 -- What is added to t is S0, the key stream's block 0.
-use Rattle.std.proofs.Common.{rules}
 use Rattle.cipher.proofs.ccm.mask.Goals as goal
 
 pub returns : goal.returns

@@ -2,8 +2,6 @@
 use mathlib.Core.Path.{refl, ◌∙◌}
 use native.Mathlib.Omega.{arith}
 use lib.ListN.{replicate, length-take}
-use Rattle.std.proofs.Common.{rules}
-use borrow.Author.Tests.{not-true, not-false}
 use Rattle.cipher.specs.Aes.{cipher}
 use Rattle.cipher.proofs.Opens.{fits_by, opened-false, opened-true}
 use Rattle.cipher.proofs.ccm.open_with.Goals as goal

@@ -1,5 +1,4 @@
 -- The stream is laid over as many octets as p has and the masked tag right behind, as the definition joins the two.
-use Rattle.std.proofs.Common.{rules}
 use Rattle.cipher.specs.Aes.{cipher}
 use Rattle.cipher.proofs.Streams.{seal-by}
 use Rattle.cipher.proofs.ccm.seal_with.Goals as goal

@@ -1,5 +1,5 @@
 use mathlib.Core.Path.{◌≡◌, refl, ap, ◌∙◌}
-use Prim.Native.Nat.{◌+◌, ◌-◌, ◌%◌, ◌≤◌, min}
+use Prim.Native.Nat.{min}
 use native.Mathlib.Omega.{arith}
 use lib.ListN.{length}
 use Rattle.std.proofs.Common.{rules}
@@ -15,11 +15,10 @@ loop-i-init c =
 pub loop-i-preserved : goal.loop-i-preserved
 loop-i-preserved c =
     let x = c.args in
-    let l = c.loop-i in
-    (
+    let l = c.loop-i in (
       omega arith,
       omega arith,
-      c.put_block.kept.0 ∙ l.invariant.2,
+      c.put_block.auto.out ∙ l.invariant.2,
       turn (cipher x.w.now) x.n x.d.now x.out.now _ _ _ _ _ l.i _ c.loop-i-test.true l.invariant.1 l.invariant.3
           c.key_stream-s.ensures c.block_from.ensures c.add_blocks-c.ensures
           c.part_of.ensures c.put_block.ensures,

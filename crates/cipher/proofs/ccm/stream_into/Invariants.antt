@@ -1,11 +1,9 @@
 -- The loop keeps: the first i octets of d, or all, stand enciphered in out, what is behind them stayed, and i is a multiple of 16.
-use mathlib.Core.Path.{◌≡◌, refl, ap, ◌∙◌}
+use mathlib.Core.Path.{◌≡◌}
 use Prim.Native.Nat.{◌+◌, ◌-◌, ◌%◌, ◌≤◌, min}
-use native.Mathlib.Omega.{arith}
 use lib.ListN.{length}
-use Rattle.std.proofs.Common.{rules}
 use Rattle.cipher.specs.Aes.{cipher}
-use Rattle.cipher.proofs.Streams.{turn, up_to-none, up_to, up_to-end}
+use Rattle.cipher.proofs.Streams.{up_to}
 use Rattle.cipher.proofs.ccm.stream_into.Given as goal
 
 abbrev pub invariant-loop-i : goal.invariant-loop-i

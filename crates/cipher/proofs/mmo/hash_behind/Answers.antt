@@ -1,5 +1,4 @@
 -- A key is one whole block: once it is taken in, what is left is d, padded with 16 more octets in its count.
-use Rattle.std.proofs.Common.{rules}
 use Rattle.cipher.proofs.Pads.{hash-behind}
 use Rattle.cipher.proofs.mmo.hash_behind.Goals as goal
 

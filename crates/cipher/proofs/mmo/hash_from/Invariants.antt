@@ -1,14 +1,10 @@
 -- The loop keeps: the chain from x over the padded blocks from i on ends as the whole one does; (l + 18) / 16 is their number.
-use mathlib.Core.Path.{ap₂, ◌≡◌, refl, sym, ap, ◌∙◌}
+use mathlib.Core.Path.{◌≡◌}
 use Prim.Native.Nat.{◌+◌, ◌-◌, ◌*◌, ◌/◌, ◌≤◌}
-use native.Mathlib.Omega.{arith}
 use lib.ListN.{length, drop}
-use Rattle.std.proofs.Common.{rules}
 use Rattle.cipher.specs.Blocks.{blocks, over}
 use Rattle.cipher.specs.Code.{padded_after}
 use Rattle.cipher.specs.Hash.{hashed_in}
-use Rattle.cipher.proofs.Chains.{over-next, over-end}
-use Rattle.cipher.proofs.Pads.{pad-length}
 use Rattle.cipher.proofs.mmo.hash_from.Given as goal
 
 abbrev pub invariant-loop-i : goal.invariant-loop-i

@@ -1,5 +1,4 @@
 -- The hash so far is the key that is expanded, and the block that it enciphers is added to the outcome.
-use Rattle.std.proofs.Common.{rules}
 use Rattle.cipher.specs.Aes.{aes128}
 use Rattle.cipher.specs.Hash.{hashed_in}
 use Rattle.cipher.proofs.mmo.hash_in.Goals as goal

@@ -1,5 +1,4 @@
 -- The two calls are the definition's inner and outer hash; the inner one's 16 octets are within what the outer one takes.
-use Rattle.std.proofs.Common.{rules}
 use Rattle.cipher.specs.Hash.{keyed_hash}
 use Rattle.cipher.proofs.mmo.keyed_hash_of.Goals as goal
 

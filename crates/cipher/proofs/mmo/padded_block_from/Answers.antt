@@ -1,10 +1,7 @@
 use mathlib.Core.Path.{refl}
-use Prim.Native.Nat.{◌-◌, ◌+◌}
 use Rattle.std.proofs.Common.{rules}
-use Rattle.octets.proofs.Filled.{Filled, none, more, all}
-use Rattle.octets.specs.Lists.{at}
+use Rattle.octets.proofs.Filled.{none, more, all}
 use Rattle.cipher.specs.Blocks.{block_from}
-use Rattle.cipher.specs.Code.{padded_after}
 use Rattle.cipher.proofs.mmo.padded_block_from.Goals as goal
 
 pub loop-j-init : goal.loop-j-init

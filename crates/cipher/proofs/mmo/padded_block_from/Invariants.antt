@@ -1,10 +1,7 @@
 -- The loop keeps: the first j octets of the block are those of the padded string from i on.
-use mathlib.Core.Path.{refl}
 use Prim.Native.Nat.{◌-◌, ◌+◌}
-use Rattle.std.proofs.Common.{rules}
-use Rattle.octets.proofs.Filled.{Filled, none, more, all}
+use Rattle.octets.proofs.Filled.{Filled}
 use Rattle.octets.specs.Lists.{at}
-use Rattle.cipher.specs.Blocks.{block_from}
 use Rattle.cipher.specs.Code.{padded_after}
 use Rattle.cipher.proofs.mmo.padded_block_from.Given as goal
 

@@ -1,7 +1,6 @@
 -- `end` is the first multiple of 16 that is 3 or more beyond d: the mark right behind d, the count in the last two, else zeros.
 use mathlib.Core.Path.{sym, ap, ◌∙◌}
 use native.Mathlib.Omega.{arith}
-use Rattle.std.proofs.Common.{rules}
 use Rattle.octets.specs.Lists.{at}
 use Rattle.cipher.specs.Code.{padded_after}
 use Rattle.cipher.proofs.Pads.{pad-plain, pad-mark, pad-high, pad-low, pad-else}

@@ -1,5 +1,4 @@
 -- Octets 4i to 4i + 3, of which the definition calls the first 4i + 0.
-use Rattle.std.proofs.Common.{rules}
 use native.Mathlib.Nat.{add-zero}
 use Rattle.cipher.proofs.words.word.Goals as goal
 
