@@ -1,6 +1,5 @@
 -- The two tests ask, without a sum, whether src has room behind `at`; where it has, `paste_at` lays it and the place moves on.
 use native.Mathlib.Omega.{arith}
-use Rattle.std.proofs.Common.{rules}
 use Rattle.text.proofs.Placed.{no_room, ahead-fits}
 use Rattle.text.proofs.cursor.put.Goals as goal
 

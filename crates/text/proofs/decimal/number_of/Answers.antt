@@ -1,7 +1,5 @@
 -- `is_decimal` decides as the definition does; what `value` then answers is the number within its limit.
 use mathlib.Core.Path.{sym, ◌∙◌}
-use Rattle.std.proofs.Common.{rules}
-use borrow.Author.Tests.{not-true, not-false}
 use Rattle.text.specs.Decimal.{number_of}
 use Rattle.text.proofs.decimal.number_of.Goals as goal
 

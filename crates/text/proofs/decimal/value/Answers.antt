@@ -1,7 +1,7 @@
-use mathlib.Core.Path.{◌≡◌, sym, ◌∙◌, ap}
-use Prim.Native.Nat.{◌+◌, ◌*◌, ◌≤◌, ◌-◌}
+use mathlib.Core.Path.{sym, ◌∙◌, ap}
+use Prim.Native.Nat.{◌+◌, ◌*◌}
 use native.Mathlib.Omega.{arith}
-use lib.ListN.{get_or, length, drop}
+use lib.ListN.{get_or, drop}
 use Rattle.std.proofs.Common.{rules}
 use Rattle.text.specs.Digits.{digit_of, spelt}
 use Rattle.text.specs.Decimal.{at_most}

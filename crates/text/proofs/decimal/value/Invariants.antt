@@ -1,13 +1,8 @@
 -- The loop keeps: s spells what is read on from n at i, and n is within the limit; reading on never makes it less.
-use mathlib.Core.Path.{◌≡◌, sym, ◌∙◌, ap}
-use Prim.Native.Nat.{◌+◌, ◌*◌, ◌≤◌, ◌-◌}
-use native.Mathlib.Omega.{arith}
-use lib.ListN.{get_or, length, drop}
-use Rattle.std.proofs.Common.{rules}
-use Rattle.text.specs.Digits.{digit_of, spelt}
-use Rattle.text.specs.Decimal.{at_most}
-use Rattle.text.proofs.Decimals.{at-most, too_many}
-use Rattle.text.proofs.Reading.{spelt-more, spelt-end, spelt-low}
+use mathlib.Core.Path.{◌≡◌}
+use Prim.Native.Nat.{◌≤◌}
+use lib.ListN.{length, drop}
+use Rattle.text.specs.Digits.{spelt}
 use Rattle.text.proofs.decimal.value.Given as goal
 
 abbrev pub invariant-loop-i : goal.invariant-loop-i

@@ -1,5 +1,4 @@
 -- The test for two octets is the definition's, and keeps the read within s.
-use Rattle.std.proofs.Common.{rules}
 use Rattle.octets.proofs.Choices.{tests}
 use Rattle.text.specs.Decimal.{zero_led}
 use Rattle.text.proofs.decimal.zero_led.Goals as goal

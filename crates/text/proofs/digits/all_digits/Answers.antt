@@ -1,9 +1,6 @@
-use mathlib.Core.Path.{◌≡◌, sym, ◌∙◌}
-use Prim.Native.Nat.{◌≤◌, ◌-◌}
+use mathlib.Core.Path.{sym, ◌∙◌}
 use native.Mathlib.Omega.{arith}
-use lib.ListN.{length, drop}
 use Rattle.std.proofs.Common.{rules}
-use Rattle.text.specs.Digits.{all_digits}
 use Rattle.text.proofs.Reading.{digits-not, digits_more, digits-end}
 use Rattle.text.proofs.digits.all_digits.Goals as goal
 

@@ -1,11 +1,8 @@
 -- The loop keeps: all of s are digits just where those from i on are. One that is none settles it.
-use mathlib.Core.Path.{◌≡◌, sym, ◌∙◌}
-use Prim.Native.Nat.{◌≤◌, ◌-◌}
-use native.Mathlib.Omega.{arith}
+use mathlib.Core.Path.{◌≡◌}
+use Prim.Native.Nat.{◌≤◌}
 use lib.ListN.{length, drop}
-use Rattle.std.proofs.Common.{rules}
 use Rattle.text.specs.Digits.{all_digits}
-use Rattle.text.proofs.Reading.{digits-not, digits_more, digits-end}
 use Rattle.text.proofs.digits.all_digits.Given as goal
 
 abbrev pub invariant-loop-i : goal.invariant-loop-i

@@ -4,7 +4,6 @@ use Prim.Native.Nat.{◌≤◌}
 use native.Mathlib.Omega.{arith}
 use lib.ListN.{length, drop, drop_of_length-le}
 use Rattle.std.proofs.Common.{rules}
-use borrow.Author.Tests.{ltb-false}
 use Rattle.text.specs.Fields.{behind}
 use Rattle.text.proofs.Parted.{behind_more, behind-none}
 use Rattle.text.proofs.fields.behind.Goals as goal
@@ -21,7 +20,7 @@ pub returns-else-at-line : goal.returns-else-at-line
 returns-else-at-line c =
     let l = c.loop-left in
     let x = c.args in
-    let h : length x.line.now ≤ l.at = ltb-false _ _ c.if-at-line.false in
+    let h : length x.line.now ≤ l.at = c.if-at-line.false in
     let d : drop l.at x.line.now ≡ [] = drop_of_length-le x.line.now h in
     (search rules, d ∙ sym (l.invariant.1 ∙ ap (behind l.left) d ∙ behind-none l.left))
 

@@ -1,13 +1,8 @@
 -- The loop keeps: what is behind k tabs is behind `left` tabs from `at` on. With no tab to pass or no octet left, it starts at `at`.
-use mathlib.Core.Path.{◌≡◌, refl, sym, ◌∙◌, ap}
-use mathlib.Core.List.{[]}
+use mathlib.Core.Path.{◌≡◌}
 use Prim.Native.Nat.{◌≤◌}
-use native.Mathlib.Omega.{arith}
-use lib.ListN.{length, drop, drop_of_length-le}
-use Rattle.std.proofs.Common.{rules}
-use borrow.Author.Tests.{ltb-false}
+use lib.ListN.{length, drop}
 use Rattle.text.specs.Fields.{behind}
-use Rattle.text.proofs.Parted.{behind_more, behind-none}
 use Rattle.text.proofs.fields.behind.Given as goal
 
 abbrev pub invariant-loop-left : goal.invariant-loop-left

@@ -1,12 +1,8 @@
 -- The loop keeps: n and the tabs from i on make the tabs of the line and one; n is at most i + 1, so it does not overflow.
 use mathlib.Core.Path.{◌≡◌}
-use mathlib.Core.Logic.{⊎_elim}
-use Prim.Native.Nat.{◌≤◌, ◌-◌, ◌+◌}
-use native.Mathlib.Omega.{arith}
+use Prim.Native.Nat.{◌≤◌, ◌+◌}
 use lib.ListN.{length, drop}
-use Rattle.std.proofs.Common.{rules}
-use Rattle.text.specs.Fields.{tabs, fields}
-use Rattle.text.proofs.Parted.{tabs-tab, tabs-more, tabs-end}
+use Rattle.text.specs.Fields.{tabs}
 use Rattle.text.proofs.fields.count.Given as goal
 
 abbrev pub invariant-loop-i : goal.invariant-loop-i

@@ -1,9 +1,7 @@
-use mathlib.Core.Path.{◌≡◌, ap}
-use Prim.Native.Nat.{◌≤◌, ◌-◌, ◌+◌}
+use mathlib.Core.Path.{ap}
 use native.Mathlib.Omega.{arith}
-use lib.ListN.{length, drop}
+use lib.ListN.{length}
 use Rattle.std.proofs.Common.{rules}
-use Rattle.text.specs.Fields.{until}
 use Rattle.text.proofs.Parted.{until-tab, until-more, until_end}
 use Rattle.text.proofs.fields.tab_from.Goals as goal
 

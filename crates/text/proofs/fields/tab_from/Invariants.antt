@@ -1,11 +1,8 @@
 -- The loop keeps: no tab stands between `from` and i, so the next one from either is the same.
-use mathlib.Core.Path.{◌≡◌, ap}
+use mathlib.Core.Path.{◌≡◌}
 use Prim.Native.Nat.{◌≤◌, ◌-◌, ◌+◌}
-use native.Mathlib.Omega.{arith}
 use lib.ListN.{length, drop}
-use Rattle.std.proofs.Common.{rules}
 use Rattle.text.specs.Fields.{until}
-use Rattle.text.proofs.Parted.{until-tab, until-more, until_end}
 use Rattle.text.proofs.fields.tab_from.Given as goal
 
 abbrev pub invariant-loop-i : goal.invariant-loop-i

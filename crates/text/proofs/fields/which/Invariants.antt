@@ -1,12 +1,7 @@
 -- The loop keeps: the search from field k on ends as the whole search does. A field that is w ends it, another moves it on.
-use mathlib.Core.Path.{◌≡◌, sym, ◌∙◌, ap}
+use mathlib.Core.Path.{◌≡◌}
 use Prim.Native.Nat.{◌≤◌, ◌-◌}
-use native.Mathlib.Omega.{arith}
-use Rattle.std.proofs.Common.{rules}
-use Rattle.octets.specs.Lists.{eq_list}
-use Rattle.octets.specs.Parts.{Part}
 use Rattle.text.specs.Fields.{fields, which, which_of}
-use Rattle.text.proofs.Parted.{which-is, which-more, which-none}
 use Rattle.text.proofs.fields.which.Given as goal
 
 abbrev pub invariant-loop-k : goal.invariant-loop-k

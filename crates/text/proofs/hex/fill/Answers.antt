@@ -1,6 +1,6 @@
 use mathlib.Core.Path.{◌≡◌, refl, ◌∙◌, ap, ap₂}
 use mathlib.Core.List.{List, ◌++◌}
-use Prim.Native.Nat.{ℕ, ◌≤◌, ◌-◌, ◌/◌}
+use Prim.Native.Nat.{ℕ}
 use native.Mathlib.Omega.{arith}
 use lib.ListN.{length, length-set, take, drop, set}
 use lib.Seq.{take-length}
@@ -14,7 +14,7 @@ pub loop-i-init : goal.loop-i-init
 loop-i-init c = (search rules, search rules, refl, refl)
 
 pub octet_at-requires : goal.octet_at-requires
-octet_at-requires c = (omega arith, c.requires.1)
+octet_at-requires c = record { i_in_bounds = omega arith; s_value = c.requires.s_value }
 
 pub loop-i-preserved : goal.loop-i-preserved
 loop-i-preserved c =

@@ -1,14 +1,9 @@
 -- The loop keeps: the first i octets that s spells are at the front of out, and behind them stands what stood there.
-use mathlib.Core.Path.{◌≡◌, refl, ◌∙◌, ap, ap₂}
-use mathlib.Core.List.{List, ◌++◌}
-use Prim.Native.Nat.{ℕ, ◌≤◌, ◌-◌, ◌/◌}
-use native.Mathlib.Omega.{arith}
-use lib.ListN.{length, length-set, take, drop, set}
-use lib.Seq.{take-length}
-use Rattle.std.proofs.Common.{rules}
+use mathlib.Core.Path.{◌≡◌}
+use mathlib.Core.List.{◌++◌}
+use Prim.Native.Nat.{◌≤◌, ◌-◌, ◌/◌}
+use lib.ListN.{length, take, drop}
 use Rattle.text.specs.Hex.{octets_of}
-use Rattle.text.proofs.Hexed.{length-octets}
-use Rattle.text.proofs.Placed.{front-more}
 use Rattle.text.proofs.hex.fill.Given as goal
 
 abbrev pub invariant-loop-i : goal.invariant-loop-i

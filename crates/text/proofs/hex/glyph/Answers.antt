@@ -1,5 +1,4 @@
 -- The test is that of io's `glyph`; d is below 16, so both sums are octets.
-use Rattle.std.proofs.Common.{rules}
 use Rattle.octets.proofs.Choices.{tests}
 use Rattle.text.proofs.hex.glyph.Goals as goal
 

@@ -2,12 +2,11 @@
 use mathlib.Core.Path.{sym, ◌∙◌}
 use Prim.Native.Nat.{◌/◌}
 use native.Mathlib.Omega.{arith}
-use Rattle.std.proofs.Common.{rules}
 use Rattle.text.proofs.Hexed.{hex-even, hex-odd}
 use Rattle.text.proofs.hex.hex_at.Goals as goal
 
 pub glyph-requires : goal.glyph-requires
-glyph-requires c = omega (arith, c.shared_slice_known-2-1.given (c.args.j / 2))
+glyph-requires c = omega (arith, c.type_inv.src (c.args.j / 2))
 
 pub returns-then-j-eq0 : goal.returns-then-j-eq0
 returns-then-j-eq0 c =

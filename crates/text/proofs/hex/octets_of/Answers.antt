@@ -1,7 +1,6 @@
 -- The three tests are those of `is_hex`, and all stand before `fill`, which lays the octets that s spells.
 use mathlib.Core.Path.{sym, ◌∙◌}
 use Rattle.std.proofs.Common.{rules}
-use borrow.Author.Tests.{not-true, not-false}
 use Rattle.octets.proofs.Choices.{tests}
 use Rattle.text.specs.Hex.{unhexed, is_hex}
 use Rattle.text.proofs.hex.octets_of.Goals as goal
@@ -19,7 +18,7 @@ unfolding unhexed is_hex
 returns-then-not-all_digits c = search (tests, sym c.all_digits.ensures ∙ c.if-not-all_digits.true)
 
 pub fill-requires : goal.fill-requires
-fill-requires c = (search rules, sym c.all_digits.ensures ∙ c.if-not-all_digits.false)
+fill-requires c = record { s_in_bounds = search rules; s_value = sym c.all_digits.ensures ∙ c.if-not-all_digits.false }
 
 pub returns : goal.returns
 unfolding unhexed is_hex

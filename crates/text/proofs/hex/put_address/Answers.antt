@@ -1,7 +1,6 @@
 -- `io::hex` writes at least 16 digits, and a number of 64 bits has no more: these are the address.
 use mathlib.Core.Path.{◌∙◌, ap}
 use native.Mathlib.Omega.{arith}
-use Rattle.std.proofs.Common.{rules}
 use Rattle.io.specs.Digits.{last_digits}
 use Rattle.text.specs.Hex.{address}
 use Rattle.text.proofs.Hexed.{sixteen}
@@ -12,5 +11,5 @@ unfolding address
 returns c =
     let x = c.args in
     let w = c.hex-n.ensures in
-    let all = sixteen x.a c.hex-n.result (omega arith) w.1.0 in
-    rw (w.1.1 ∙ ap (λ k. last_digits 16 k x.a) all) at c.put.ensures
+    let all = sixteen x.a c.hex-n.result (omega arith) w.len in
+    rw (w.digits ∙ ap (λ k. last_digits 16 k x.a) all) at c.put.ensures

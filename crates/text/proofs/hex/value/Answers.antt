@@ -1,5 +1,5 @@
-use mathlib.Core.Path.{◌≡◌, sym, ◌∙◌, ap}
-use Prim.Native.Nat.{◌+◌, ◌*◌, ◌≤◌, ◌<◌, ◌-◌, ◌^◌}
+use mathlib.Core.Path.{sym, ◌∙◌, ap}
+use Prim.Native.Nat.{◌+◌, ◌*◌}
 use native.Mathlib.Omega.{arith}
 use lib.ListN.{drop}
 use Rattle.std.proofs.Common.{rules}
@@ -15,16 +15,15 @@ pub overflow_add-n : goal.overflow_add-n
 overflow_add-n c =
     let x = c.args in
     let l = c.loop-i in
-    let d = digit_at 16 x.s.now l.i c.requires.1 (omega arith) in
+    let d = digit_at 16 x.s.now l.i c.requires.s_value (omega arith) in
     omega (arith, (room l.n l.i c.digit.result l.invariant.1 (omega (arith, d)) c.loop-i-test.true).1)
 
 pub loop-i-preserved : goal.loop-i-preserved
 loop-i-preserved c =
     let x = c.args in
     let l = c.loop-i in
-    let d = digit_at 16 x.s.now l.i c.requires.1 (omega arith) in
-    let more = spelt-more 16 x.s.now l.i l.n (omega arith) in
-    (
+    let d = digit_at 16 x.s.now l.i c.requires.s_value (omega arith) in
+    let more = spelt-more 16 x.s.now l.i l.n (omega arith) in (
       search rules,
       (room l.n l.i c.digit.result l.invariant.1 (omega (arith, d)) c.loop-i-test.true).0,
       l.invariant.2 ∙ more

@@ -1,12 +1,8 @@
 -- The loop keeps: s spells what is read on from n at i, and n is below 16^i, so that 16 digits stay within 64 bits.
-use mathlib.Core.Path.{◌≡◌, sym, ◌∙◌, ap}
-use Prim.Native.Nat.{◌+◌, ◌*◌, ◌≤◌, ◌<◌, ◌-◌, ◌^◌}
-use native.Mathlib.Omega.{arith}
+use mathlib.Core.Path.{◌≡◌}
+use Prim.Native.Nat.{◌≤◌, ◌<◌, ◌-◌, ◌^◌}
 use lib.ListN.{drop}
-use Rattle.std.proofs.Common.{rules}
 use Rattle.text.specs.Digits.{spelt}
-use Rattle.text.proofs.Hexed.{room}
-use Rattle.text.proofs.Reading.{digit_at, spelt-more, spelt-end}
 use Rattle.text.proofs.hex.value.Given as goal
 
 abbrev pub invariant-loop-i : goal.invariant-loop-i
