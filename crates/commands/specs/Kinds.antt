@@ -1,7 +1,7 @@
 -- Document 01, "The commands" (RULES 9.1), and Table 4-31 of source document 000: the identifiers, and the inner types of
 -- Transport-Key and Request-Key. "Reserved identifiers and types are 11."
 -- Assumes nothing.
-use Rattle.std.specs.Prelude.{ℕ, ◌==◌, nat_eq}
+use Rattle.std.specs.Prelude.{ℕ, ◌==◌}
 use Rattle.std.specs.Prelude.{if◌then◌else◌}
 use Rattle.commands.specs.declared.Command.{Command}
 use Rattle.commands.specs.declared.Kind.{Kind}
@@ -16,31 +16,31 @@ use Rattle.commands.specs.declared.Requested.TheVariants as requests
 unfoldable pub transport_of : ℕ → Listed
 transport_of t =
     if t == 1 then Is Transport1
-    else (if nat_eq t 2 then Is Transport2
-    else (if nat_eq t 3 then Is Transport3
-    else (if nat_eq t 4 then Is Transport4
+    else (if t == 2 then Is Transport2
+    else (if t == 3 then Is Transport3
+    else (if t == 4 then Is Transport4
     else Reserved)))
 
 -- the types of Request-Key
 unfoldable pub request_of : ℕ → Listed
 request_of t =
     if t == 2 then Is Request2
-    else (if nat_eq t 4 then Is Request4
+    else (if t == 4 then Is Request4
     else Reserved)
 
 -- an identifier, with the octet behind it, which is the type where there is one
 unfoldable pub listed : ℕ → ℕ → Listed
 listed id t =
     if id == 0x05 then transport_of t
-    else (if nat_eq id 0x06 then Is Update
-    else (if nat_eq id 0x07 then Is Remove
-    else (if nat_eq id 0x08 then request_of t
-    else (if nat_eq id 0x09 then Is Switch
-    else (if nat_eq id 0x0e then Is Tunnel
-    else (if nat_eq id 0x0f then Is Verify
-    else (if nat_eq id 0x10 then Is Confirm
-    else (if nat_eq id 0x11 then Is Down
-    else (if nat_eq id 0x12 then Is Up
+    else (if id == 0x06 then Is Update
+    else (if id == 0x07 then Is Remove
+    else (if id == 0x08 then request_of t
+    else (if id == 0x09 then Is Switch
+    else (if id == 0x0e then Is Tunnel
+    else (if id == 0x0f then Is Verify
+    else (if id == 0x10 then Is Confirm
+    else (if id == 0x11 then Is Down
+    else (if id == 0x12 then Is Up
     else Reserved)))))))))
 
 -- the row of the list that a command is of

@@ -1,7 +1,7 @@
 -- Document 01, "The commands" (RULES 9.1): the list of sizes and protections. "Sizes count from the identifier." "The protection
 -- column is ours."
 -- Assumes nothing.
-use Rattle.std.specs.Prelude.{ℕ, ◌+◌, Bool, true, false, List, length, ◌==◌, nat_eq, nat_le}
+use Rattle.std.specs.Prelude.{ℕ, ◌+◌, Bool, true, false, List, length, ◌==◌, nat_le}
 use Rattle.std.specs.Prelude.{if◌then◌else◌}
 use Rattle.octets.specs.Choice.{both}
 use Rattle.answers.specs.Numbers.{ProtectionTold, clear, under}
@@ -67,7 +67,7 @@ secret_size Hash = 16
 -- "none, 0, 2 or 3"
 unfoldable pub known : ProtectionTold → Bool
 known clear = true
-known (under n) = if n == 0 then true else (if nat_eq n 2 then true else (n == 3))
+known (under n) = if n == 0 then true else (if n == 2 then true else (n == 3))
 
 unfoldable pub allows : Allowed → ProtectionTold → Bool
 allows Clear clear = true

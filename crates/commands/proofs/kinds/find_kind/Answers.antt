@@ -1,6 +1,7 @@
 -- Each arm is the identifier's row of the list; in the arms between, no identifier of the list is left.
-use Rattle.std.proofs.Common.{rules, ne_eqb}
+use Rattle.std.proofs.Common.{ne_eqb}
 use Rattle.commands.specs.Kinds.{listed}
+use Rattle.std.proofs.Common.{◌≢◌, arith}
 use Rattle.commands.proofs.kinds.find_kind.Goals as goal
 
 pub returns-in-5 : goal.returns-in-5
@@ -46,47 +47,44 @@ returns-in-18 c = simp c.in-18.is
 pub returns-in-0-to-4 : goal.returns-in-0-to-4
 unfolding listed
 returns-in-0-to-4 c =
-    simp (
-      ne_eqb _ _ c.in_default-1.rest.1,
-      ne_eqb _ _ c.in_default-1.rest.0.1,
-      ne_eqb _ _ c.in_default-1.rest.0.0.1,
-      ne_eqb _ _ c.in_default-1.rest.0.0.0.1,
-      ne_eqb _ _ c.in_default-1.rest.0.0.0.0.1,
-      ne_eqb _ _ c.in_default-1.rest.0.0.0.0.0.1,
-      ne_eqb _ _ c.in_default-1.rest.0.0.0.0.0.0.1,
-      ne_eqb _ _ c.in_default-1.rest.0.0.0.0.0.0.0.1,
-      ne_eqb _ _ c.in_default-1.rest.0.0.0.0.0.0.0.0.1,
-      ne_eqb _ _ c.in_default-1.rest.0.0.0.0.0.0.0.0.0.1,
-    )
+    let n5 : c.args.id ≢ 5 = omega arith in
+    let n6 : c.args.id ≢ 6 = omega arith in
+    let n7 : c.args.id ≢ 7 = omega arith in
+    let n8 : c.args.id ≢ 8 = omega arith in
+    let n9 : c.args.id ≢ 9 = omega arith in
+    let n14 : c.args.id ≢ 14 = omega arith in
+    let n15 : c.args.id ≢ 15 = omega arith in
+    let n16 : c.args.id ≢ 16 = omega arith in
+    let n17 : c.args.id ≢ 17 = omega arith in
+    let n18 : c.args.id ≢ 18 = omega arith in
+    simp (ne_eqb _ _ n5, ne_eqb _ _ n6, ne_eqb _ _ n7, ne_eqb _ _ n8, ne_eqb _ _ n9, ne_eqb _ _ n14, ne_eqb _ _ n15, ne_eqb _ _ n16, ne_eqb _ _ n17, ne_eqb _ _ n18)
 
 pub returns-in-10-to-13 : goal.returns-in-10-to-13
 unfolding listed
 returns-in-10-to-13 c =
-    simp (
-      ne_eqb _ _ c.in_default-1.rest.1,
-      ne_eqb _ _ c.in_default-1.rest.0.1,
-      ne_eqb _ _ c.in_default-1.rest.0.0.1,
-      ne_eqb _ _ c.in_default-1.rest.0.0.0.1,
-      ne_eqb _ _ c.in_default-1.rest.0.0.0.0.1,
-      ne_eqb _ _ c.in_default-1.rest.0.0.0.0.0.1,
-      ne_eqb _ _ c.in_default-1.rest.0.0.0.0.0.0.1,
-      ne_eqb _ _ c.in_default-1.rest.0.0.0.0.0.0.0.1,
-      ne_eqb _ _ c.in_default-1.rest.0.0.0.0.0.0.0.0.1,
-      ne_eqb _ _ c.in_default-1.rest.0.0.0.0.0.0.0.0.0.1,
-    )
+    let n5 : c.args.id ≢ 5 = omega arith in
+    let n6 : c.args.id ≢ 6 = omega arith in
+    let n7 : c.args.id ≢ 7 = omega arith in
+    let n8 : c.args.id ≢ 8 = omega arith in
+    let n9 : c.args.id ≢ 9 = omega arith in
+    let n14 : c.args.id ≢ 14 = omega arith in
+    let n15 : c.args.id ≢ 15 = omega arith in
+    let n16 : c.args.id ≢ 16 = omega arith in
+    let n17 : c.args.id ≢ 17 = omega arith in
+    let n18 : c.args.id ≢ 18 = omega arith in
+    simp (ne_eqb _ _ n5, ne_eqb _ _ n6, ne_eqb _ _ n7, ne_eqb _ _ n8, ne_eqb _ _ n9, ne_eqb _ _ n14, ne_eqb _ _ n15, ne_eqb _ _ n16, ne_eqb _ _ n17, ne_eqb _ _ n18)
 
 pub returns-in-19-to-255 : goal.returns-in-19-to-255
 unfolding listed
 returns-in-19-to-255 c =
-    simp (
-      ne_eqb _ _ c.in_default-1.rest.1,
-      ne_eqb _ _ c.in_default-1.rest.0.1,
-      ne_eqb _ _ c.in_default-1.rest.0.0.1,
-      ne_eqb _ _ c.in_default-1.rest.0.0.0.1,
-      ne_eqb _ _ c.in_default-1.rest.0.0.0.0.1,
-      ne_eqb _ _ c.in_default-1.rest.0.0.0.0.0.1,
-      ne_eqb _ _ c.in_default-1.rest.0.0.0.0.0.0.1,
-      ne_eqb _ _ c.in_default-1.rest.0.0.0.0.0.0.0.1,
-      ne_eqb _ _ c.in_default-1.rest.0.0.0.0.0.0.0.0.1,
-      ne_eqb _ _ c.in_default-1.rest.0.0.0.0.0.0.0.0.0.1,
-    )
+    let n5 : c.args.id ≢ 5 = omega arith in
+    let n6 : c.args.id ≢ 6 = omega arith in
+    let n7 : c.args.id ≢ 7 = omega arith in
+    let n8 : c.args.id ≢ 8 = omega arith in
+    let n9 : c.args.id ≢ 9 = omega arith in
+    let n14 : c.args.id ≢ 14 = omega arith in
+    let n15 : c.args.id ≢ 15 = omega arith in
+    let n16 : c.args.id ≢ 16 = omega arith in
+    let n17 : c.args.id ≢ 17 = omega arith in
+    let n18 : c.args.id ≢ 18 = omega arith in
+    simp (ne_eqb _ _ n5, ne_eqb _ _ n6, ne_eqb _ _ n7, ne_eqb _ _ n8, ne_eqb _ _ n9, ne_eqb _ _ n14, ne_eqb _ _ n15, ne_eqb _ _ n16, ne_eqb _ _ n17, ne_eqb _ _ n18)

@@ -1,6 +1,7 @@
 -- Each arm is the type's row of the list; in the last, no type of the list is left.
 use Rattle.std.proofs.Common.{ne_eqb}
 use Rattle.commands.specs.Kinds.{transport_of}
+use Rattle.std.proofs.Common.{◌≢◌, arith}
 use Rattle.commands.proofs.kinds.transport_of.Goals as goal
 
 pub returns-in-0 : goal.returns-in-0
@@ -26,10 +27,9 @@ returns-in-4 c = simp c.in-4.is
 pub returns-in-5-to-255 : goal.returns-in-5-to-255
 unfolding transport_of
 returns-in-5-to-255 c =
-    simp (
-      ne_eqb _ _ c.in-5-to-255.rest.1,
-      ne_eqb _ _ c.in-5-to-255.rest.0.1,
-      ne_eqb _ _ c.in-5-to-255.rest.0.0.1,
-      ne_eqb _ _ c.in-5-to-255.rest.0.0.0.1,
-      ne_eqb _ _ c.in-5-to-255.rest.0.0.0.0.1,
-    )
+    let n0 : c.args.sort ≢ 0 = omega arith in
+    let n1 : c.args.sort ≢ 1 = omega arith in
+    let n2 : c.args.sort ≢ 2 = omega arith in
+    let n3 : c.args.sort ≢ 3 = omega arith in
+    let n4 : c.args.sort ≢ 4 = omega arith in
+    simp (ne_eqb _ _ n0, ne_eqb _ _ n1, ne_eqb _ _ n2, ne_eqb _ _ n3, ne_eqb _ _ n4)

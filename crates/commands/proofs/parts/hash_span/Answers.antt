@@ -1,5 +1,4 @@
 -- A refusal has no span; a sound frame's goes by the row that was looked up.
-use Rattle.std.proofs.Common.{rules}
 use Rattle.commands.specs.Parts.{hash_span}
 use Rattle.commands.proofs.parts.hash_span.Goals as goal
 

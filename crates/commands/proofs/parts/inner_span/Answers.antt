@@ -1,5 +1,5 @@
 -- A refusal has no span; a sound frame's goes by the row that was looked up.
-use Rattle.std.proofs.Common.{ap, arith, rules}
+use Rattle.std.proofs.Common.{ap, arith}
 use Rattle.commands.specs.declared.Rule.{Rule}
 use Rattle.commands.specs.Parts.{inner_span}
 use Rattle.commands.proofs.Bounds.{size-most}

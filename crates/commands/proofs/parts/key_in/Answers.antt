@@ -1,5 +1,4 @@
 -- Each arm is the definition's.
-use Rattle.std.proofs.Common.{rules}
 use Rattle.commands.specs.Parts.{key_in}
 use Rattle.commands.proofs.parts.key_in.Goals as goal
 

@@ -1,5 +1,5 @@
 -- The span of the frame's judgement lies inside the frame, so that part can be cut out.
-use Rattle.std.proofs.Common.{ap, ◌∙◌, rules}
+use Rattle.std.proofs.Common.{ap, ◌∙◌}
 use Rattle.commands.specs.Parts.{cut_at, tlvs_span}
 use Rattle.commands.proofs.Bounds.{tlvs-holds}
 use Rattle.commands.proofs.parts.tlvs_of.Goals as goal

@@ -1,5 +1,5 @@
 -- A value found in the TLVs lies inside their span, and that inside the frame, so that part can be cut out.
-use Rattle.std.proofs.Common.{sym, ap, ◌∙◌, subst, rules}
+use Rattle.std.proofs.Common.{sym, ap, ◌∙◌, subst}
 use Rattle.commands.specs.Parts.{cut_at, tlvs_span, value_span}
 use Rattle.commands.proofs.Bounds.{Holds, tlvs-holds, value-holds}
 use Rattle.commands.proofs.parts.value_of.Goals as goal

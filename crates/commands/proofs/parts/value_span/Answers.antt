@@ -1,5 +1,5 @@
 -- The TLVs are lent as a part of the frame; what was found in them lies as far behind where they start.
-use Rattle.std.proofs.Common.{◌∙◌, arith, rules}
+use Rattle.std.proofs.Common.{◌∙◌, arith}
 use Rattle.commands.proofs.Bounds.{value-at, found-holds}
 use Rattle.commands.proofs.parts.value_span.Goals as goal
 

@@ -1,5 +1,4 @@
 -- Each kind's numbers are read where `command_in` reads them.
-use Rattle.std.proofs.Common.{rules}
 use Rattle.commands.specs.Reading.{command_in}
 use Rattle.commands.proofs.reader.fields_of.Goals as goal
 

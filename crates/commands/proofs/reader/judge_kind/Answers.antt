@@ -1,6 +1,5 @@
 -- The tests of size, of what follows and of protection are `judge_kind`'s, in its order, by the row that was looked up.
-use Rattle.std.proofs.Common.{◌+◌, sym, ap, ◌∙◌, arith, rules, le-ltb, lt-ltb}
-use borrow.Author.Tests.{not-true, not-false}
+use Rattle.std.proofs.Common.{◌+◌, sym, ap, ◌∙◌, arith, le-ltb, lt-ltb}
 use Rattle.commands.specs.declared.Rule.{Rule}
 use Rattle.commands.specs.Reading.{judge_kind}
 use Rattle.commands.proofs.Bounds.{size-most, rest-fits}
@@ -17,8 +16,7 @@ pub returns-then-not-fits_rest : goal.returns-then-not-fits_rest
 unfolding judge_kind
 returns-then-not-fits_rest c =
     simp (
-      rest-fits _ _ (2 + c.rule_of-rule.result.size) c.args.f.now _ c.fits_rest.ensures ∙ not-true _
-          c.if-not-fits_rest.true,
+      rest-fits _ _ (2 + c.rule_of-rule.result.size) c.args.f.now _ c.fits_rest.ensures ∙ c.if-not-fits_rest.true,
       le-ltb _ _ c.if-f-end.false,
       ← c.rule_of-rule.ensures,
     )
@@ -28,8 +26,7 @@ unfolding judge_kind
 returns-then-not-is_allowed c =
     simp (
       sym c.is_allowed.ensures ∙ c.if-not-is_allowed.true,
-      rest-fits _ _ (2 + c.rule_of-rule.result.size) c.args.f.now _ c.fits_rest.ensures ∙ not-false _
-          c.if-not-fits_rest.false,
+      rest-fits _ _ (2 + c.rule_of-rule.result.size) c.args.f.now _ c.fits_rest.ensures ∙ c.if-not-fits_rest.false,
       le-ltb _ _ c.if-f-end.false,
       ← c.rule_of-rule.ensures,
     )
@@ -39,8 +36,7 @@ unfolding judge_kind
 returns c =
     simp (
       sym c.is_allowed.ensures ∙ c.if-not-is_allowed.false,
-      rest-fits _ _ (2 + c.rule_of-rule.result.size) c.args.f.now _ c.fits_rest.ensures ∙ not-false _
-          c.if-not-fits_rest.false,
+      rest-fits _ _ (2 + c.rule_of-rule.result.size) c.args.f.now _ c.fits_rest.ensures ∙ c.if-not-fits_rest.false,
       le-ltb _ _ c.if-f-end.false,
       ← c.rule_of-rule.ensures,
     )

@@ -1,5 +1,5 @@
 -- The two octets are the definition's, so the row found by them is; a row is judged by `judge_kind`.
-use Rattle.std.proofs.Common.{sym, ◌∙◌, rules}
+use Rattle.std.proofs.Common.{sym}
 use Rattle.commands.specs.Reading.{judge_listed}
 use Rattle.commands.proofs.reader.judge_listed.Goals as goal
 

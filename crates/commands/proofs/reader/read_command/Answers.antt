@@ -1,5 +1,5 @@
 -- The judgement decides: its refusal is handed on, and a kind that is sound gives its fields.
-use Rattle.std.proofs.Common.{sym, ap, ◌∙◌, rules}
+use Rattle.std.proofs.Common.{sym, ap, ◌∙◌}
 use Rattle.commands.specs.Reading.{read_command}
 use Rattle.commands.specs.Code.{told_judged}
 use Rattle.commands.proofs.reader.read_command.Goals as goal

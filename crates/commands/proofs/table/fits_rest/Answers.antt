@@ -1,5 +1,5 @@
 -- Each arm is the definition's; of an inner frame the size comes first.
-use Rattle.std.proofs.Common.{rules, le-leb}
+use Rattle.std.proofs.Common.{le-leb}
 use borrow.Author.Tests.{lt-leb}
 use Rattle.commands.specs.Table.{fits}
 use Rattle.commands.proofs.table.fits_rest.Goals as goal

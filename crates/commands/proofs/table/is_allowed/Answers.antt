@@ -1,5 +1,4 @@
 -- Each pair of arms is the definition's.
-use Rattle.std.proofs.Common.{rules}
 use Rattle.commands.specs.Table.{allows}
 use Rattle.commands.proofs.table.is_allowed.Goals as goal
 

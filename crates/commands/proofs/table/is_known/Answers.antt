@@ -1,6 +1,7 @@
 -- Each arm is one of the definition's tests; in the last, none of them is left.
-use Rattle.std.proofs.Common.{rules, ne_eqb}
+use Rattle.std.proofs.Common.{ne_eqb}
 use Rattle.commands.specs.Table.{known}
+use Rattle.std.proofs.Common.{◌≢◌, arith}
 use Rattle.commands.proofs.table.is_known.Goals as goal
 
 pub returns-in-Clear : goal.returns-in-Clear
@@ -26,10 +27,8 @@ returns-in-3 c = simp (c.in-3.is, c.in-Under.is)
 pub returns-in-4-to-255 : goal.returns-in-4-to-255
 unfolding known
 returns-in-4-to-255 c =
-    simp (
-      ne_eqb _ _ c.in-4-to-255.rest.1,
-      ne_eqb _ _ c.in-4-to-255.rest.0.1,
-      ne_eqb _ _ c.in-4-to-255.rest.0.0.1,
-      ne_eqb _ _ c.in-4-to-255.rest.0.0.0.1,
-      c.in-Under.is,
-    )
+    let n0 : c.in-Under.n ≢ 0 = omega arith in
+    let n1 : c.in-Under.n ≢ 1 = omega arith in
+    let n2 : c.in-Under.n ≢ 2 = omega arith in
+    let n3 : c.in-Under.n ≢ 3 = omega arith in
+    simp (ne_eqb _ _ n0, ne_eqb _ _ n1, ne_eqb _ _ n2, ne_eqb _ _ n3, c.in-Under.is)

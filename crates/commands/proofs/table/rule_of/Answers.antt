@@ -1,5 +1,4 @@
 -- Each arm is the kind's row of the list.
-use Rattle.std.proofs.Common.{rules}
 use Rattle.commands.specs.Table.{rule_of}
 use Rattle.commands.proofs.table.rule_of.Goals as goal
 

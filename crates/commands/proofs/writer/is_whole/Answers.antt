@@ -1,5 +1,4 @@
 -- The two tests are the definition's: the size of key or hash, then what follows.
-use Rattle.std.proofs.Common.{rules}
 use Rattle.commands.proofs.Laid.{whole-not, whole_by}
 use Rattle.commands.proofs.writer.is_whole.Goals as goal
 

@@ -1,5 +1,5 @@
 -- Each part is laid right behind the last, so together they stand at the start of the output.
-use Rattle.std.proofs.Common.{take, sym, refl, arith, length-take-le, rules}
+use Rattle.std.proofs.Common.{take, sym, refl, arith, length-take-le}
 use Rattle.commands.specs.Code.{lined}
 use Rattle.commands.proofs.Laid.{laid-all}
 use Rattle.commands.proofs.writer.lay.Goals as goal

@@ -1,5 +1,5 @@
 -- Each command's fields are put one behind another in the order of its layout; their sizes add up to the row's.
-use Rattle.std.proofs.Common.{sym, ap, ◌∙◌, arith, rules}
+use Rattle.std.proofs.Common.{sym, ap, ◌∙◌, arith}
 use Rattle.commands.specs.declared.Command.TheVariants.{TransportKey, RequestKey}
 use Rattle.commands.specs.Table.{rule_of}
 use Rattle.commands.specs.Writing.{own_octets}
@@ -24,17 +24,16 @@ with_key-requires-in-ApplicationLink c = asked (c.in-TransportKey.is ∙ ap Tran
 
 pub with_part-requires : goal.with_part-requires
 unfolding rule_of
-with_part-requires c =
-    (
-      omega (
-        arith,
-        asked c.in-VerifyKey.is c.requires,
-        c.with_address-in-VerifyKey.ensures.0,
-        c.with_octet-in-VerifyKey.ensures.0,
-        c.led_by-in-VerifyKey.ensures.0,
-      ),
-      c.with_address-in-VerifyKey.ensures.1,
-    )
+with_part-requires c = (
+  omega (
+    arith,
+    asked c.in-VerifyKey.is c.requires,
+    c.with_address-in-VerifyKey.ensures.0,
+    c.with_octet-in-VerifyKey.ensures.0,
+    c.led_by-in-VerifyKey.ensures.0,
+  ),
+  c.with_address-in-VerifyKey.ensures.1,
+)
 
 pub returns-in-Network : goal.returns-in-Network
 unfolding own_octets rule_of

@@ -1,6 +1,5 @@
 -- 1, 11 and 2 are the definition's tests, in its order: the frame's length is known from the row before it is laid.
-use Rattle.std.proofs.Common.{true, sym, ap, ◌∙◌, arith, rules}
-use borrow.Author.Tests.{not-true, not-false}
+use Rattle.std.proofs.Common.{true, sym, ap, ◌∙◌, arith}
 use Rattle.settings.specs.Settings.{ours}
 use Rattle.commands.specs.declared.Rule.{Rule}
 use Rattle.commands.specs.Table.{rule_of}
