@@ -1,0 +1,14 @@
+-- The loop keeps: the bits that are still to be shifted give what all eight give.
+use mathlib.Core.Path.{◌≡◌, refl, sym, ap, ◌∙◌}
+use Prim.Native.Nat.{◌≤◌, ◌-◌, ◌+◌}
+use lib.Bits.{bit_xor}
+use Rattle.std.proofs.Common.{rules}
+use Rattle.labels.specs.Crc.{shifted_by, taken_in}
+use Rattle.labels.proofs.Crcs.{bit-more, bit-end}
+use Rattle.labels.proofs.crc.taken_in.Given as goal
+
+abbrev pub invariant-loop : goal.invariant-loop
+invariant-loop l = (l.counter ≤ 8) × (shifted_by 8 (bit_xor l.c l.x) ≡ shifted_by (8 - l.counter) l.r)
+
+abbrev pub decreases-loop : goal.decreases-loop
+decreases-loop l = 8 - l.counter

@@ -1,0 +1,8 @@
+-- The letter is among all of them where it is among those from i on.
+use Rattle.std.proofs.Common.{◌≡◌, ◌+◌, ◌-◌, ◌≤◌, length, drop, sym, ◌∙◌, arith, rules, eq-eqb, ne_eqb}
+use Rattle.lines.specs.Forms.{among}
+use Rattle.lines.proofs.Formed.{among-is, among-more, among-end}
+use Rattle.lines.proofs.forms.is_among.Given as goal
+
+abbrev pub invariant-loop-i : goal.invariant-loop-i
+invariant-loop-i l = (l.i ≤ length l.letters) × (l.i-end ≡ length l.letters) × (among l.c l.letters ≡ among l.c (drop l.i l.letters))

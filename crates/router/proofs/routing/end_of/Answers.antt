@@ -1,0 +1,19 @@
+-- Each arm is the definition's, worked out where an inner frame of n octets has them all.
+use native.Mathlib.Omega.{arith}
+use Rattle.std.proofs.Common.{rules}
+use Rattle.router.proofs.routing.end_of.Goals as goal
+
+pub returns-in-Whole : goal.returns-in-Whole
+returns-in-Whole c = simp c.in-Whole.is (omega arith)
+
+pub returns-in-Header : goal.returns-in-Header
+returns-in-Header c = simp c.in-Header.is
+
+pub returns-in-Auxiliary : goal.returns-in-Auxiliary
+returns-in-Auxiliary c = simp c.in-Auxiliary.is
+
+pub returns-in-Payload : goal.returns-in-Payload
+returns-in-Payload c = simp c.in-Payload.is (omega arith)
+
+pub returns-in-Tag : goal.returns-in-Tag
+returns-in-Tag c = simp c.in-Tag.is (omega arith)
