@@ -2,7 +2,6 @@
 use mathlib.Core.Path.{sym, ap, ◌∙◌}
 use native.Mathlib.Omega.{arith}
 use lib.ListN.{replicate}
-use Rattle.std.proofs.Common.{rules}
 use Rattle.settings.specs.Settings.{ours, longest}
 use Rattle.octets.specs.Keys.{the_key}
 use Rattle.seals.specs.Sealing.{told_unsealed}

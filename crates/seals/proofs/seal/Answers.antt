@@ -1,7 +1,6 @@
 -- The three tests are those of `sealing`, and what passes them is what `seal_sound` asks for.
 use mathlib.Core.Path.{sym, ◌∙◌}
-use Rattle.std.proofs.Common.{rules}
-use borrow.Author.Tests.{le-leb, lt-leb, not-true, not-false}
+use borrow.Author.Tests.{le-leb, lt-leb}
 use Rattle.seals.specs.Sealing.{sealing}
 use Rattle.seals.proofs.seal.Goals as goal
 

@@ -1,7 +1,6 @@
 -- The two tests are those of `unsealing`, and what passes them is what `unseal_sound` asks for.
 use mathlib.Core.Path.{sym, ◌∙◌}
-use Rattle.std.proofs.Common.{rules}
-use borrow.Author.Tests.{lt-leb, not-true, not-false}
+use borrow.Author.Tests.{lt-leb}
 use Rattle.seals.specs.Sealing.{unsealing}
 use Rattle.seals.proofs.unseal.Goals as goal
 

@@ -1,6 +1,5 @@
 -- Each arm is the definition's, worked out where an inner frame of n octets has them all.
 use native.Mathlib.Omega.{arith}
-use Rattle.std.proofs.Common.{rules}
 use Rattle.router.proofs.routing.end_of.Goals as goal
 
 pub returns-in-Whole : goal.returns-in-Whole

@@ -1,50 +1,43 @@
 -- The inner frame is a part of the frame, and a portion one of the inner frame, so that it can be cut out of both.
--- the octets of the inner frame
-use mathlib.Core.Path.{◌≡◌, sym, ap, ◌∙◌}
+use mathlib.Core.Path.{sym, ap, ◌∙◌}
 use native.Mathlib.Omega.{arith}
-use Prim.Native.Nat.{ℕ, ◌-◌, ◌≤◌}
+use Prim.Native.Nat.{◌-◌}
 use lib.ListN.{length}
-use Rattle.std.proofs.Common.{rules}
 use Rattle.octets.proofs.Parts.{same-part}
 use Rattle.octets.specs.Parts.{Part}
 use Rattle.settings.specs.Settings.{ours}
 use Rattle.answers.specs.Numbers.{protection_of}
 use Rattle.commands.specs.declared.Span.{Span}
-use Rattle.commands.specs.Reading.{judge}
-use Rattle.commands.specs.Parts.{octets_at, cut_at, inner_span}
+use Rattle.commands.specs.Parts.{cut_at}
 use Rattle.router.proofs.Portions.{none-on, within, same_count, long-enough, its-span, its-octets}
 use Rattle.router.proofs.routing.portion_of.Goals as goal
 
-found : (c : goal.After-inner_of-inner) → let s : goal.Start = search in
-    c.inner_of.result.now ≡ octets_at s.args.frame.now (inner_span (length s.args.frame.now)
-    (judge ours s.args.frame.now (protection_of s.args.protection)))
-found c = ap (λ (x : Part). x.octets) c.inner_of-inner.ensures
-
--- where it starts and ends
-
-bounds : (c : goal.After-end_of-end) → let i : goal.After-inner_of-inner = search in
-    (c.before.start_of_lem.result ≤ c.end_of_lem.result) × (c.end_of_lem.result ≤ length i.inner_of.result.now)
-bounds c =
-    let n = length c.inner_of-inner.result.now in
-    let h = long-enough ours c.args.frame.now (protection_of c.args.protection) _ (found (search)) c.if-inner-eq0.false in
-    let b = within ours n h c.args.portion in
-    (omega (arith, c.end_of_lem.ensures, c.start_of_lem.ensures), omega (arith, b, c.end_of_lem.ensures))
-
 pub returns-then-inner-eq0 : goal.returns-then-inner-eq0
 returns-then-inner-eq0 c =
-    let n = sym (same_count ours c.args.frame.now (protection_of c.args.protection) _ (found (search))) ∙ c.if-inner-eq0.true in
+    let n = sym (same_count ours c.args.frame.now (protection_of c.args.protection) _ (ap (λ (x : Part). x.octets) c.inner_of-inner.ensures)) ∙ c.if-inner-eq0.true in
     c.inner_of-inner.ensures
     ∙ ap (cut_at c.args.frame)
     (sym (none-on ours c.args.frame.now (protection_of c.args.protection) c.args.portion n))
 
 pub start_of-start-requires : goal.start_of-start-requires
-start_of-start-requires c = long-enough ours c.args.frame.now (protection_of c.args.protection) _ (found (search)) c.if-inner-eq0.false
+start_of-start-requires c = long-enough ours c.args.frame.now (protection_of c.args.protection) _ (ap (λ (x : Part). x.octets) c.inner_of-inner.ensures) c.if-inner-eq0.false
 
 pub end_of-end-requires : goal.end_of-end-requires
-end_of-end-requires c = long-enough ours c.args.frame.now (protection_of c.args.protection) _ (found (search)) c.if-inner-eq0.false
+end_of-end-requires c = long-enough ours c.args.frame.now (protection_of c.args.protection) _ (ap (λ (x : Part). x.octets) c.inner_of-inner.ensures) c.if-inner-eq0.false
 
 pub slice_bounds-result-count : goal.slice_bounds-result-count
-slice_bounds-result-count c = let b = bounds c in omega (arith, b.0)
+slice_bounds-result-count c =
+    let n = length c.inner_of-inner.result.now in
+    let h = long-enough ours c.args.frame.now (protection_of c.args.protection) _ (ap (λ (x : Part). x.octets) c.inner_of-inner.ensures) c.if-inner-eq0.false in
+    let b = within ours n h c.args.portion in
+    omega (arith, b, c.end_of-end.ensures, c.start_of-start.ensures)
+
+pub slice_bounds-result-end : goal.slice_bounds-result-end
+slice_bounds-result-end c =
+    let n = length c.inner_of-inner.result.now in
+    let h = long-enough ours c.args.frame.now (protection_of c.args.protection) _ (ap (λ (x : Part). x.octets) c.inner_of-inner.ensures) c.if-inner-eq0.false in
+    let b = within ours n h c.args.portion in
+    omega (arith, b, c.end_of-end.ensures)
 
 pub returns : goal.returns
 returns c =
@@ -52,9 +45,9 @@ returns c =
     let p = protection_of c.args.protection in
     let m = c.inner_of-inner.result.now in
     let e = c.inner_of-inner.ensures in
-    let s = its-span ours f p m (found (search)) c.if-inner-eq0.false c.args.portion in
+    let s = its-span ours f p m (ap (λ (x : Part). x.octets) c.inner_of-inner.ensures) c.if-inner-eq0.false c.args.portion in
     same-part (ap (λ (x : Part). x.block) e)
-    (omega (arith, ap (λ (x : Part). x.offset) e, ap (λ (x : Span). x.from) s, c.start_of_lem.ensures))
-    (its-octets ours f p m (found (search)) c.if-inner-eq0.false c.args.portion
-    (c.end_of_lem.result - c.start_of_lem.result) _ c.start_of_lem.ensures
-    (omega (arith, c.end_of_lem.ensures, c.start_of_lem.ensures)))
+    (omega (arith, ap (λ (x : Part). x.offset) e, ap (λ (x : Span). x.from) s, c.start_of-start.ensures))
+    (its-octets ours f p m (ap (λ (x : Part). x.octets) c.inner_of-inner.ensures) c.if-inner-eq0.false c.args.portion
+    (c.end_of-end.result - c.start_of-start.result) _ c.start_of-start.ensures
+    (omega (arith, c.end_of-end.ensures, c.start_of-start.ensures)))

@@ -1,6 +1,5 @@
 -- What the reader answered decides: its refusal is handed on.
 use mathlib.Core.Path.{sym, ap, ◌∙◌}
-use Rattle.std.proofs.Common.{rules}
 use Rattle.commands.specs.Reading.{told_reading}
 use Rattle.router.specs.Routing.{route_of, route}
 use Rattle.router.proofs.routing.route.Goals as goal

@@ -1,6 +1,5 @@
 -- Each arm is the definition's, of which a key's type makes no difference.
 use mathlib.Core.Path.{sym}
-use Rattle.std.proofs.Common.{rules}
 use Rattle.router.specs.Routing.{tunnel_to}
 use Rattle.router.proofs.Stops.{transport-stops, request-stops}
 use Rattle.router.proofs.routing.tunnel_to.Goals as goal
