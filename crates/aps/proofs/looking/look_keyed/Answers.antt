@@ -1,0 +1,21 @@
+-- The tag is looked at under the key of the entry that is found, which is one of the eight.
+use mathlib.Core.Path.{sym, ◌∙◌}
+use native.Mathlib.Omega.{arith}
+use Rattle.std.proofs.Common.{rules}
+use Rattle.aps.specs.Opening.{looked_keyed}
+use Rattle.board.proofs.Found.{link-place}
+use Rattle.aps.proofs.looking.look_keyed.Goals as goal
+
+pub offset_bounds-links-i : goal.offset_bounds-links-i
+offset_bounds-links-i c = let h = link-place _ _ _ (sym c.in-At.ensures) in omega arith
+
+pub bounds-links-i : goal.bounds-links-i
+bounds-links-i c = link-place _ _ _ (sym c.in-At.ensures)
+
+pub returns-in-At : goal.returns-in-At
+unfolding looked_keyed
+returns-in-At c = simp (sym c.in-At.ensures, ← c.key_named.ensures) c.look.ensures
+
+pub returns-in-Absent : goal.returns-in-Absent
+unfolding looked_keyed
+returns-in-Absent c = simp (sym c.in-Absent.ensures)

@@ -1,0 +1,42 @@
+-- The entry that is found is one of the eight, and a board that has these entries finds the same.
+use mathlib.Core.Path.{sym, ap, ◌∙◌}
+use mathlib.Core.List.{List}
+use native.Mathlib.Omega.{arith}
+use Rattle.aps.specs.Opening.{opened_keyed}
+use Rattle.board.specs.declared.Link.{Link}
+use Rattle.board.specs.State.{link_at}
+use Rattle.board.specs.Requests.{link_of}
+use Rattle.board.proofs.Found.{link-place}
+use Rattle.aps.proofs.Admission.{stays, moves-none}
+use Rattle.std.proofs.Common.{rules}
+use Rattle.aps.proofs.opening.open_keyed.Goals as goal
+
+pub offset_bounds-links-i : goal.offset_bounds-links-i
+offset_bounds-links-i c = let h = link-place _ _ _ (sym c.in-At.ensures) in omega arith
+
+pub bounds-links-i : goal.bounds-links-i
+bounds-links-i c = link-place _ _ _ (sym c.in-At.ensures)
+
+pub open_under-requires : goal.open_under-requires
+open_under-requires c = (c.requires.0, (c.requires.1, link-place _ _ _ (sym c.in-At.ensures)))
+
+pub returns-in-At : goal.returns-in-At
+unfolding opened_keyed
+returns-in-At c =
+    let y = c.args in
+    (
+      (λ b el. simp (ap (λ (x : List Link). link_of x y.s.sender) el ∙ sym c.in-At.ensures)
+          (c.open_under.ensures.0 b (ap (λ (x : List Link). link_at x c.in-At.i) el))),
+      c.open_under.ensures.1,
+    )
+
+pub returns-in-Absent : goal.returns-in-Absent
+unfolding opened_keyed
+returns-in-Absent c =
+    let y = c.args in
+    (
+      (λ b el. simp
+          (ap (λ (x : List Link). link_of x y.s.sender) el ∙ sym c.in-Absent.ensures)
+          (stays _ _ _ c.unmoved.ensures.0 c.unmoved.ensures.1 b)),
+      moves-none c.unmoved.ensures.1,
+    )

@@ -1,0 +1,21 @@
+-- The place that `slot_of` answers decides; that it is a slot is what a search tells of its answer.
+use mathlib.Core.Path.{sym, ◌∙◌}
+use native.Mathlib.Omega.{arith}
+use Rattle.std.proofs.Common.{rules}
+use Rattle.network.specs.Opening.{looked_keyed}
+use Rattle.board.proofs.Found.{slot-place}
+use Rattle.network.proofs.looking.look_keyed.Goals as goal
+
+pub offset_bounds-slots-i : goal.offset_bounds-slots-i
+offset_bounds-slots-i c = let h = slot-place _ _ _ (sym c.in-At.ensures) in omega arith
+
+pub bounds-slots-i : goal.bounds-slots-i
+bounds-slots-i c = slot-place _ _ _ (sym c.in-At.ensures)
+
+pub returns-in-At : goal.returns-in-At
+unfolding looked_keyed
+returns-in-At c = simp (sym c.in-At.ensures) c.look.ensures
+
+pub returns-in-Absent : goal.returns-in-Absent
+unfolding looked_keyed
+returns-in-Absent c = simp (sym c.in-Absent.ensures)

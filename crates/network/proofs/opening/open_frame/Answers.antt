@@ -1,0 +1,75 @@
+-- Each refusal is the definition's test of the same place, and a frame that was read as secured is what it announces.
+use mathlib.Core.Path.{◌≡◌, sym, ap, ◌∙◌}
+use mathlib.Core.Bool.{true, false}
+use mathlib.Core.List.{List}
+use Prim.Native.Nat.{ℕ}
+use native.Mathlib.Omega.{arith}
+use lib.Dec.{leb, ltb}
+use lib.ListN.{length}
+use Rattle.std.proofs.Common.{rules}
+use borrow.Author.Tests.{lt-ltb, le-ltb, lt-leb, le-leb, not-true, not-false}
+use Rattle.octets.proofs.Pasted.{pasted-onto}
+use Rattle.network.specs.Opening.{lent, leaving, open_network, opened_read}
+use Rattle.settings.specs.Settings.{ours, longest}
+use Rattle.answers.specs.Numbers.{opened, clear}
+use Rattle.frames.specs.Reading.{told_read}
+use Rattle.board.specs.Rows.{lists, lists_fit}
+use Rattle.board.proofs.Halves.{lists-long}
+use Rattle.network.proofs.Admission.{read-sound}
+use Rattle.network.proofs.opening.open_frame.Goals as goal
+
+-- what the tests before have shown: there is room, the lists fit, the frame is not too long
+
+pub returns-then-out-lt-LONGEST : goal.returns-then-out-lt-LONGEST
+unfolding open_network
+returns-then-out-lt-LONGEST c = simp (lt-leb _ _ c.if-out-lt-LONGEST.true)
+
+pub returns-then-not-lists_fit : goal.returns-then-not-lists_fit
+unfolding open_network
+returns-then-not-lists_fit c = simp ((le-leb _ _ c.if-out-lt-LONGEST.false), sym c.lists_fit.ensures ∙ c.if-not-lists_fit.true)
+
+pub returns-then-frame-gt-LONGEST : goal.returns-then-frame-gt-LONGEST
+unfolding open_network
+returns-then-frame-gt-LONGEST c = simp ((le-leb _ _ c.if-out-lt-LONGEST.false), (sym c.lists_fit.ensures ∙ c.if-not-lists_fit.false), lt-ltb _ _ c.if-frame-gt-LONGEST.true)
+
+pub open_keyed-requires : goal.open_keyed-requires
+open_keyed-requires c =
+    let long = lists-long _ ((sym c.lists_fit.ensures ∙ c.if-not-lists_fit.false)) in (
+      read-sound ours c.args.frame.now _ (sym c.read_frame.ensures ∙ ap told_read c.in-Secured.is)
+          c.if-frame-gt-LONGEST.false,
+      (c.if-out-lt-LONGEST.false, long.0 ∙ sym long.1),
+    )
+
+pub returns-in-Refused : goal.returns-in-Refused
+unfolding open_network opened_read
+returns-in-Refused c =
+    simp (
+      (le-leb _ _ c.if-out-lt-LONGEST.false),
+      (sym c.lists_fit.ensures ∙ c.if-not-lists_fit.false),
+      (le-ltb _ _ c.if-frame-gt-LONGEST.false),
+      sym c.read_frame.ensures ∙ ap told_read c.in-Refused.is,
+    )
+
+pub returns-in-Plain : goal.returns-in-Plain
+unfolding open_network opened_read
+returns-in-Plain c =
+    let y = c.args in
+    simp (
+      (le-leb _ _ c.if-out-lt-LONGEST.false),
+      (sym c.lists_fit.ensures ∙ c.if-not-lists_fit.false),
+      (le-ltb _ _ c.if-frame-gt-LONGEST.false),
+      sym c.read_frame.ensures ∙ ap told_read c.in-Plain.is,
+    )
+    (ap (λ (x : List ℕ). leaving (opened (length y.frame.now) 0 clear) (lent y.addrs.now y.floors.now x))
+    (pasted-onto _ y.out.now y.frame.now c.paste_at.ensures (omega (arith, c.if-out-lt-LONGEST.false, c.if-frame-gt-LONGEST.false))))
+
+pub returns-in-Secured : goal.returns-in-Secured
+unfolding open_network opened_read
+returns-in-Secured c =
+    simp (
+      (le-leb _ _ c.if-out-lt-LONGEST.false),
+      (sym c.lists_fit.ensures ∙ c.if-not-lists_fit.false),
+      (le-ltb _ _ c.if-frame-gt-LONGEST.false),
+      sym c.read_frame.ensures ∙ ap told_read c.in-Secured.is,
+    )
+    c.open_keyed.ensures

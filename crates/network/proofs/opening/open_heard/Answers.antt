@@ -1,0 +1,13 @@
+-- The floor read is that of the sender's row, and the test of the counter is the definition's.
+use Rattle.std.proofs.Common.{rules}
+use borrow.Author.Tests.{lt-ltb, le-ltb}
+use Rattle.network.specs.Code.{opened_heard}
+use Rattle.network.proofs.opening.open_heard.Goals as goal
+
+pub returns-then-s-floors : goal.returns-then-s-floors
+unfolding opened_heard
+returns-then-s-floors c = simp (lt-ltb _ _ c.if-s-floors.true)
+
+pub returns : goal.returns
+unfolding opened_heard
+returns c = simp (le-ltb _ _ c.if-s-floors.false) c.admit.ensures

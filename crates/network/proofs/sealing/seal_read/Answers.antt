@@ -1,0 +1,45 @@
+-- Each refusal is the definition's test of the same place; the header that was read is within the frame.
+use mathlib.Core.Path.{sym, ap, ◌∙◌}
+use borrow.Author.Tests.{lt-ltb, le-ltb}
+use Rattle.network.specs.Sealing.{seal_network, sealed_read, sealed_by}
+use Rattle.frames.specs.Reading.{told_plain}
+use Rattle.network.proofs.Sends.{plain-bounds}
+use Rattle.settings.specs.Settings.{ours}
+use Rattle.std.proofs.Common.{rules}
+use Rattle.network.proofs.sealing.seal_read.Goals as goal
+
+pub returns-then-out-lt-LONGEST : goal.returns-then-out-lt-LONGEST
+unfolding seal_network
+returns-then-out-lt-LONGEST c = λ b es ea en. simp (lt-ltb _ _ c.if-out-lt-LONGEST.true)
+
+pub returns-then-f-gt-LONGEST_PLAIN : goal.returns-then-f-gt-LONGEST_PLAIN
+unfolding seal_network
+returns-then-f-gt-LONGEST_PLAIN c = λ b es ea en. simp (le-ltb _ _ c.if-out-lt-LONGEST.false, lt-ltb _ _ c.if-f-gt-LONGEST_PLAIN.true)
+
+pub seal_by-requires : goal.seal_by-requires
+seal_by-requires c =
+    (
+      plain-bounds c.args.f.now _
+          (sym c.read_plain.ensures ∙ ap told_plain c.in-Header.is),
+      (c.if-f-gt-LONGEST_PLAIN.false, c.if-out-lt-LONGEST.false),
+    )
+
+pub returns-in-Refused : goal.returns-in-Refused
+unfolding seal_network sealed_read
+returns-in-Refused c =
+    λ b es ea en. simp (
+      le-ltb _ _ c.if-out-lt-LONGEST.false,
+      le-ltb _ _ c.if-f-gt-LONGEST_PLAIN.false,
+      sym c.read_plain.ensures ∙ ap told_plain c.in-Refused.is,
+    )
+
+pub returns-in-Header : goal.returns-in-Header
+unfolding seal_network sealed_read
+returns-in-Header c =
+    λ b es ea en. let y = c.args in
+    simp (
+      le-ltb _ _ c.if-out-lt-LONGEST.false,
+      le-ltb _ _ c.if-f-gt-LONGEST_PLAIN.false,
+      sym c.read_plain.ensures ∙ ap told_plain c.in-Header.is,
+    )
+    (c.seal_by.ensures b es en ∙ ap (sealed_by ours b y.f.now y.out.now c.in-Header.h) (sym ea))
