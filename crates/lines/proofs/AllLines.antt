@@ -2,14 +2,14 @@
 -- and by their numbers, none lost and none twice, each as far as there is room for it and marked where it is longer; the last
 -- one too, which no line feed ends.
 -- Assumes nothing.
-use Rattle.std.proofs.Common.{◌≡◌, ℕ, zero, suc, ◌+◌, ◌<◌, ◌≤◌, Bool, true, false, not, eqb, ltb, List, [], ◌∷◌, ◌++◌, map, length, take, sym, refl, ap, ◌∙◌, ap₂, append_assoc, append-nil, not-suc-le-zero, arith, length-append, length-take-le, take_all, ltb-false, ltb-true, le-ltb, lt-ltb, eqb-true}
+use Rattle.std.proofs.Common.{◌≡◌, ℕ, zero, suc, ◌+◌, ◌<◌, ◌≤◌, Bool, true, false, not, eqb, ltb, List, [], ◌∷◌, ◌++◌, map, length, take, sym, refl, ap, ◌∙◌, ap₂, append-nil, not-suc-le-zero, arith, length-append, length-take-le, take_all, ltb-false, ltb-true, le-ltb, lt-ltb, eqb-true}
 use mathlib.Core.Bool.{false≢true}
 use lib.Seq.{take-nil, append_snoc, take-append-le}
 use Rattle.octets.proofs.Choices.{both-parts}
 use Rattle.std.specs.Prelude.{if◌then◌else◌}
 use Rattle.octets.specs.Choice.{both}
 use Rattle.lines.specs.Lines.{Lines, lines, lines_from, lines_of, glued, unfed, all_unfed}
-use Rattle.lines.specs.Reading.{Held, holds, kept, unread, fed, Reached, reached, read_on}
+use Rattle.lines.specs.Reading.{Held, kept, unread, fed, Reached, reached, read_on}
 use Rattle.lines.specs.Passing.{stands, at_start, number_after, begun, empty, spent, turned, filled, due}
 use Rattle.lines.specs.Passing.{Numbered, numbered, handing, read, later, turns, given, all, counted_from}
 

@@ -1,6 +1,6 @@
 -- Laws of a line that is being read: one octet more of it, a turn of the loop through a chunk, and the buffer behind the line.
 -- Assumes nothing.
-use Rattle.std.proofs.Common.{◌≡◌, ℕ, ◌+◌, ◌-◌, ◌<◌, ◌≤◌, Bool, true, false, leb, List, [], ◌∷◌, ◌++◌, length, get_or, take, drop, set, sym, refl, ap, ◌∙◌, append-nil, add-one, arith, take-append-drop, drop_of_length-le, length-take, length-take-le, take_all, drop-drop, take-suc-set, le-ltb, lt-ltb, eq-eqb, ne_eqb, leb-false, leb-true}
+use Rattle.std.proofs.Common.{◌≡◌, ℕ, ◌+◌, ◌-◌, ◌<◌, ◌≤◌, Bool, true, false, leb, List, ◌++◌, length, get_or, take, drop, set, sym, refl, ap, ◌∙◌, append-nil, add-one, arith, take-append-drop, drop_of_length-le, length-take-le, take_all, drop-drop, take-suc-set, le-ltb, lt-ltb, eq-eqb, ne_eqb, leb-false, leb-true}
 use Rattle.octets.proofs.Tabs.{drop-step}
 use Rattle.octets.specs.Lists.{onto}
 use Rattle.lines.specs.Reading.{Held, holds, fed, reached, read_on}

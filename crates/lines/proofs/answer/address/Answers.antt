@@ -1,5 +1,5 @@
 -- As `word`, with the address in hex.
-use Rattle.std.proofs.Common.{◌≡◌, ℕ, List, sym, refl, ap, ◌∙◌, ap₂, arith, rules}
+use Rattle.std.proofs.Common.{ℕ, List, ap, ◌∙◌, arith}
 use Rattle.text.specs.Hex.{address}
 use Rattle.lines.specs.Answer.{room, more, field}
 use Rattle.lines.proofs.Written.{laid}

@@ -1,5 +1,5 @@
 -- As `word`, with the number in decimal.
-use Rattle.std.proofs.Common.{◌≡◌, ℕ, List, sym, refl, ap, ◌∙◌, ap₂, arith, rules}
+use Rattle.std.proofs.Common.{ℕ, List, ap, ◌∙◌, arith}
 use Rattle.text.specs.Decimal.{decimal}
 use Rattle.lines.specs.Answer.{room, more, field}
 use Rattle.lines.proofs.Written.{laid}

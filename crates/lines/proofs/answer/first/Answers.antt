@@ -1,5 +1,5 @@
 -- A word that is put at the front of an empty answer is all of it, where it has room.
-use Rattle.std.proofs.Common.{◌≡◌, ℕ, length, replicate, sym, refl, ap, ◌∙◌, ap₂, rules}
+use Rattle.std.proofs.Common.{◌≡◌, ℕ, length, replicate}
 use lib.ListN.{length-replicate}
 use Rattle.lines.specs.Answer.{room}
 use Rattle.lines.proofs.Written.{laid}

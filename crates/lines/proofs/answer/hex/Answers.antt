@@ -1,5 +1,5 @@
 -- As `word`, with the octets in hex.
-use Rattle.std.proofs.Common.{◌≡◌, ℕ, List, sym, refl, ap, ◌∙◌, ap₂, arith, rules}
+use Rattle.std.proofs.Common.{ℕ, List, ap, ◌∙◌, arith}
 use Rattle.text.specs.Hex.{hex_of}
 use Rattle.lines.specs.Answer.{room, more, field}
 use Rattle.lines.proofs.Written.{laid}

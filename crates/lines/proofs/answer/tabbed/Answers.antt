@@ -1,5 +1,5 @@
 -- A tab is put behind the answer, where it has room.
-use Rattle.std.proofs.Common.{◌≡◌, [], ◌∷◌, sym, refl, ap, ◌∙◌, ap₂, arith, rules}
+use Rattle.std.proofs.Common.{[], ◌∷◌, arith}
 use Rattle.lines.proofs.Written.{laid}
 use Rattle.lines.proofs.answer.tabbed.Goals as goal
 

@@ -1,5 +1,5 @@
 -- The word is put behind a tab, and each of the two is left out where it has no room.
-use Rattle.std.proofs.Common.{◌≡◌, ℕ, List, sym, refl, ap, ◌∙◌, ap₂, arith, rules}
+use Rattle.std.proofs.Common.{ℕ, List, ap, ◌∙◌, arith}
 use Rattle.lines.specs.Answer.{room, more, field}
 use Rattle.lines.proofs.Written.{laid}
 use Rattle.lines.proofs.answer.word.Goals as goal

@@ -1,5 +1,5 @@
 -- The two cases of an address are those of a value.
-use Rattle.std.proofs.Common.{sym, ◌∙◌, rules}
+use Rattle.std.proofs.Common.{sym}
 use Rattle.lines.specs.Kinds.{value_of}
 use Rattle.lines.proofs.forms.address_value.Goals as goal
 

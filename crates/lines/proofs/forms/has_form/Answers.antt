@@ -1,5 +1,4 @@
-use Rattle.std.proofs.Common.{◌≡◌, ◌+◌, ◌-◌, ◌≤◌, true, length, sym, refl, ap, ◌∙◌, arith, rules, eq-eqb, ne_eqb}
-use borrow.Author.Tests.{not-true, not-false}
+use Rattle.std.proofs.Common.{◌≡◌, length, sym, refl, ap, ◌∙◌, arith, rules, eq-eqb, ne_eqb}
 use Rattle.lines.specs.Kinds.{good}
 use Rattle.lines.specs.Forms.{first_good, has_form}
 use Rattle.lines.proofs.Formed.{one-bad, one_more}

@@ -1,9 +1,6 @@
 -- The first i fields are good; one that is not is enough to refuse, and behind the last all are.
-use Rattle.std.proofs.Common.{◌≡◌, ◌+◌, ◌-◌, ◌≤◌, true, length, sym, refl, ap, ◌∙◌, arith, rules, eq-eqb, ne_eqb}
-use borrow.Author.Tests.{not-true, not-false}
-use Rattle.lines.specs.Kinds.{good}
-use Rattle.lines.specs.Forms.{first_good, has_form}
-use Rattle.lines.proofs.Formed.{one-bad, one_more}
+use Rattle.std.proofs.Common.{◌≡◌, ◌≤◌, true, length}
+use Rattle.lines.specs.Forms.{first_good}
 use Rattle.lines.proofs.forms.has_form.Given as goal
 
 abbrev pub invariant-loop-i : goal.invariant-loop-i

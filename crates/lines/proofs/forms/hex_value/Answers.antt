@@ -1,6 +1,5 @@
 -- The tests are those of `is_hex`, and two digits make an octet.
-use Rattle.std.proofs.Common.{sym, ◌∙◌, rules}
-use borrow.Author.Tests.{not-true, not-false}
+use Rattle.std.proofs.Common.{sym, ◌∙◌}
 use Rattle.octets.proofs.Choices.{tests}
 use Rattle.lines.specs.Kinds.{whole_hex, value_of}
 use Rattle.lines.proofs.forms.hex_value.Goals as goal

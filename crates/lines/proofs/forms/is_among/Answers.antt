@@ -1,5 +1,4 @@
-use Rattle.std.proofs.Common.{◌≡◌, ◌+◌, ◌-◌, ◌≤◌, length, drop, sym, ◌∙◌, arith, rules, eq-eqb, ne_eqb}
-use Rattle.lines.specs.Forms.{among}
+use Rattle.std.proofs.Common.{sym, ◌∙◌, arith, rules, eq-eqb, ne_eqb}
 use Rattle.lines.proofs.Formed.{among-is, among-more, among-end}
 use Rattle.lines.proofs.forms.is_among.Goals as goal
 

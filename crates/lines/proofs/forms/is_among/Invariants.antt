@@ -1,7 +1,6 @@
 -- The letter is among all of them where it is among those from i on.
-use Rattle.std.proofs.Common.{◌≡◌, ◌+◌, ◌-◌, ◌≤◌, length, drop, sym, ◌∙◌, arith, rules, eq-eqb, ne_eqb}
+use Rattle.std.proofs.Common.{◌≡◌, ◌≤◌, length, drop}
 use Rattle.lines.specs.Forms.{among}
-use Rattle.lines.proofs.Formed.{among-is, among-more, among-end}
 use Rattle.lines.proofs.forms.is_among.Given as goal
 
 abbrev pub invariant-loop-i : goal.invariant-loop-i

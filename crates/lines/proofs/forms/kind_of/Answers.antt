@@ -1,5 +1,5 @@
 -- Each letter has its arm; the last arm has a letter that is none of these.
-use Rattle.std.proofs.Common.{rules, ne_eqb}
+use Rattle.std.proofs.Common.{◌≢◌, arith, ne_eqb}
 use Rattle.lines.specs.Kinds.{field_kind}
 use Rattle.lines.proofs.forms.kind_of.Goals as goal
 
@@ -58,18 +58,31 @@ returns-in-116 c = simp c.in-116.is
 pub returns-in_default : goal.returns-in_default
 unfolding field_kind
 returns-in_default c =
+    let n65 : c.args.letter ≢ 65 = omega arith in
+    let n66 : c.args.letter ≢ 66 = omega arith in
+    let n83 : c.args.letter ≢ 83 = omega arith in
+    let n67 : c.args.letter ≢ 67 = omega arith in
+    let n84 : c.args.letter ≢ 84 = omega arith in
+    let n75 : c.args.letter ≢ 75 = omega arith in
+    let n70 : c.args.letter ≢ 70 = omega arith in
+    let n71 : c.args.letter ≢ 71 = omega arith in
+    let n88 : c.args.letter ≢ 88 = omega arith in
+    let n107 : c.args.letter ≢ 107 = omega arith in
+    let n104 : c.args.letter ≢ 104 = omega arith in
+    let n105 : c.args.letter ≢ 105 = omega arith in
+    let n116 : c.args.letter ≢ 116 = omega arith in
     simp (
-      ne_eqb _ _ c.in_default.rest.1,
-      ne_eqb _ _ c.in_default.rest.0.1,
-      ne_eqb _ _ c.in_default.rest.0.0.1,
-      ne_eqb _ _ c.in_default.rest.0.0.0.1,
-      ne_eqb _ _ c.in_default.rest.0.0.0.0.1,
-      ne_eqb _ _ c.in_default.rest.0.0.0.0.0.1,
-      ne_eqb _ _ c.in_default.rest.0.0.0.0.0.0.1,
-      ne_eqb _ _ c.in_default.rest.0.0.0.0.0.0.0.1,
-      ne_eqb _ _ c.in_default.rest.0.0.0.0.0.0.0.0.1,
-      ne_eqb _ _ c.in_default.rest.0.0.0.0.0.0.0.0.0.1,
-      ne_eqb _ _ c.in_default.rest.0.0.0.0.0.0.0.0.0.0.1,
-      ne_eqb _ _ c.in_default.rest.0.0.0.0.0.0.0.0.0.0.0.1,
-      ne_eqb _ _ c.in_default.rest.0.0.0.0.0.0.0.0.0.0.0.0.1,
+      ne_eqb _ _ n65,
+      ne_eqb _ _ n66,
+      ne_eqb _ _ n83,
+      ne_eqb _ _ n67,
+      ne_eqb _ _ n84,
+      ne_eqb _ _ n75,
+      ne_eqb _ _ n70,
+      ne_eqb _ _ n71,
+      ne_eqb _ _ n88,
+      ne_eqb _ _ n107,
+      ne_eqb _ _ n104,
+      ne_eqb _ _ n105,
+      ne_eqb _ _ n116,
     )

@@ -1,5 +1,5 @@
-use Rattle.std.proofs.Common.{◌≡◌, ◌+◌, ◌-◌, ◌≤◌, sym, refl, ap, ◌∙◌, arith, rules}
-use Rattle.octets.proofs.Filled.{Filled, none, more, all}
+use Rattle.std.proofs.Common.{refl, ap, ◌∙◌, rules}
+use Rattle.octets.proofs.Filled.{none, more, all}
 use Rattle.lines.specs.Kinds.{worth}
 use Rattle.lines.specs.Forms.{worth_at}
 use Rattle.lines.proofs.forms.numbers_of.Goals as goal

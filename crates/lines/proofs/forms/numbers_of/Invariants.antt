@@ -1,7 +1,6 @@
 -- The first i numbers are those of the fields, and the rest is still to come.
-use Rattle.std.proofs.Common.{◌≡◌, ◌+◌, ◌-◌, ◌≤◌, sym, refl, ap, ◌∙◌, arith, rules}
-use Rattle.octets.proofs.Filled.{Filled, none, more, all}
-use Rattle.lines.specs.Kinds.{worth}
+use Rattle.std.proofs.Common.{◌-◌}
+use Rattle.octets.proofs.Filled.{Filled}
 use Rattle.lines.specs.Forms.{worth_at}
 use Rattle.lines.proofs.forms.numbers_of.Given as goal
 

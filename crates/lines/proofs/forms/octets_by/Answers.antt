@@ -1,5 +1,5 @@
 -- The field is the one at the letter's place, and its octets are read by `text`.
-use Rattle.std.proofs.Common.{◌≡◌, ℕ, List, ap, ◌∙◌, rules}
+use Rattle.std.proofs.Common.{ℕ, List, ap, ◌∙◌}
 use Rattle.octets.specs.Parts.{Part}
 use Rattle.text.specs.Fields.{field_at}
 use Rattle.text.specs.Hex.{unhexed}

@@ -1,5 +1,4 @@
-use Rattle.std.proofs.Common.{◌≡◌, ◌+◌, ◌-◌, ◌≤◌, length, drop, sym, ◌∙◌, arith, rules}
-use Rattle.lines.specs.Forms.{place_of}
+use Rattle.std.proofs.Common.{sym, ◌∙◌, arith, rules}
 use Rattle.lines.proofs.Formed.{place_is, place-more, place_end}
 use Rattle.lines.proofs.forms.place_of.Goals as goal
 

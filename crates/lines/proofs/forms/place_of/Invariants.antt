@@ -1,7 +1,6 @@
 -- No letter before place i is one of those, so that the search from i on finds the same place.
-use Rattle.std.proofs.Common.{◌≡◌, ◌+◌, ◌-◌, ◌≤◌, length, drop, sym, ◌∙◌, arith, rules}
+use Rattle.std.proofs.Common.{◌≡◌, ◌+◌, ◌≤◌, length, drop}
 use Rattle.lines.specs.Forms.{place_of}
-use Rattle.lines.proofs.Formed.{place_is, place-more, place_end}
 use Rattle.lines.proofs.forms.place_of.Given as goal
 
 abbrev pub invariant-loop-i : goal.invariant-loop-i

@@ -1,5 +1,5 @@
 -- `none` is tested first, as the definition does.
-use Rattle.std.proofs.Common.{sym, ◌∙◌, rules}
+use Rattle.std.proofs.Common.{sym, ◌∙◌}
 use Rattle.lines.specs.Kinds.{value_of}
 use Rattle.lines.proofs.forms.protection_value.Goals as goal
 

@@ -1,4 +1,4 @@
-use Rattle.std.proofs.Common.{◌≡◌, ℕ, ◌-◌, ◌/◌, ◌≤◌, length, sym, ap, ◌∙◌, arith, rules}
+use Rattle.std.proofs.Common.{◌≡◌, ℕ, ◌-◌, ◌/◌, sym, ap, ◌∙◌, arith, rules}
 use Rattle.text.specs.Fields.{fields}
 use Rattle.lines.specs.Forms.{row_from, row_of}
 use Rattle.lines.proofs.Formed.{rows_fit, row_is, row_more, row-none}

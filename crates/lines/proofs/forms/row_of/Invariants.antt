@@ -1,8 +1,7 @@
 -- The loop keeps: no row before r is the line's, so that the first row is to be found from r on.
-use Rattle.std.proofs.Common.{◌≡◌, ℕ, ◌-◌, ◌/◌, ◌≤◌, length, sym, ap, ◌∙◌, arith, rules}
+use Rattle.std.proofs.Common.{◌≡◌, ◌-◌, ◌/◌, ◌≤◌}
 use Rattle.text.specs.Fields.{fields}
 use Rattle.lines.specs.Forms.{row_from, row_of}
-use Rattle.lines.proofs.Formed.{rows_fit, row_is, row_more, row-none}
 use Rattle.lines.proofs.forms.row_of.Given as goal
 
 abbrev pub invariant-loop-r : goal.invariant-loop-r

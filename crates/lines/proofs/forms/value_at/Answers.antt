@@ -1,5 +1,5 @@
 -- The letter gives the kind, and the kind the value of the field.
-use Rattle.std.proofs.Common.{◌≡◌, sym, ap, ◌∙◌, ap₂, rules}
+use Rattle.std.proofs.Common.{ap, ◌∙◌, ap₂}
 use Rattle.octets.specs.Parts.{Part}
 use Rattle.lines.specs.Forms.{value_at}
 use Rattle.lines.specs.Kinds.{field_kind, value_of}
@@ -9,4 +9,4 @@ pub returns : goal.returns
 unfolding value_at
 returns c =
     let kind = c.kind_of.ensures ∙ ap field_kind c.octet.ensures in
-    c.value_of_lem.ensures ∙ ap₂ value_of kind (ap (λ (p : Part). p.octets) c.field.ensures)
+    c.value_of.ensures ∙ ap₂ value_of kind (ap (λ (p : Part). p.octets) c.field.ensures)

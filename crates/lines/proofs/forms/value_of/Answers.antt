@@ -1,6 +1,5 @@
 -- Each kind is read by its own function.
 use Rattle.lines.specs.Kinds.{value_of}
-use Rattle.std.proofs.Common.{rules}
 use Rattle.lines.proofs.forms.value_of.Goals as goal
 
 pub returns-in-Word : goal.returns-in-Word

@@ -1,5 +1,5 @@
 -- The line is unread, and a chunk of no octets has nothing left.
-use Rattle.std.proofs.Common.{true, false, [], ap, rules}
+use Rattle.std.proofs.Common.{true, false, [], ap}
 use Rattle.lines.specs.Reading.{Held, reached}
 use Rattle.lines.specs.Passing.{stands}
 use Rattle.lines.proofs.reader.fresh_reader.Goals as goal

@@ -1,5 +1,5 @@
 -- What is left of the chunk is empty just where the place in it is not before its end.
-use Rattle.std.proofs.Common.{ℕ, leb, List, length, take, ap, ◌∙◌, rules}
+use Rattle.std.proofs.Common.{ℕ, leb, List, length, take, ap, ◌∙◌}
 use Rattle.octets.specs.Parts.{Part}
 use Rattle.lines.specs.Passing.{spent}
 use Rattle.lines.proofs.Turned.{empty_left}

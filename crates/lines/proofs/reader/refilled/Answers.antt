@@ -1,5 +1,5 @@
 -- The line that is begun stays, all of the new chunk is left, and the input goes on where that has an octet.
-use Rattle.std.proofs.Common.{◌≡◌, ℕ, Bool, true, false, not, eqb, List, length, take, sym, ap, ◌∙◌, rules}
+use Rattle.std.proofs.Common.{◌≡◌, ℕ, Bool, true, false, not, eqb, List, length, take, sym, ap, ◌∙◌}
 use Rattle.octets.specs.Choice.{both}
 use Rattle.octets.specs.Parts.{Part}
 use Rattle.lines.specs.Reading.{held, reached}

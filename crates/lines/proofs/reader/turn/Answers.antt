@@ -1,5 +1,5 @@
 -- The line that is begun is read on by `next_line`, in the chunk that was cut to its octets.
-use Rattle.std.proofs.Common.{length, ap, rules}
+use Rattle.std.proofs.Common.{length, ap}
 use Rattle.octets.specs.Parts.{Part}
 use Rattle.lines.specs.Passing.{standing}
 use Rattle.lines.proofs.Turned.{turn_on}
@@ -14,4 +14,7 @@ returns c =
     let was = standing x.reader x.chunk.now x.buf.now in
     let n = length x.buf.now in
     let from = c.begun_line-now.result.stop.from in
-    (turn_on n was read.result read.last.1.1.1.0 from cut read.ensures.0 begun, read.ensures.1)
+    record {
+      buf_after = turn_on n was read.result read.new.buf from cut read.ensures.buf_after begun;
+      leaves = read.ensures.leaves;
+    }

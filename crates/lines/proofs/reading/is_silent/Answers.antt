@@ -1,5 +1,5 @@
 -- The two tests are those of `silent`.
-use Rattle.std.proofs.Common.{rules, eq-eqb, ne_eqb}
+use Rattle.std.proofs.Common.{rules, ne_eqb}
 use Rattle.octets.proofs.Choices.{tests}
 use Rattle.lines.specs.Lines.{silent}
 use Rattle.lines.proofs.reading.is_silent.Goals as goal

@@ -1,4 +1,4 @@
-use Rattle.std.proofs.Common.{◌≡◌, ℕ, ◌+◌, ◌-◌, length, get_or, drop, sym, refl, ap, ◌∙◌, rules}
+use Rattle.std.proofs.Common.{ℕ, ◌+◌, length, get_or, drop, sym, refl, ap, ◌∙◌, rules}
 use Rattle.lines.specs.Reading.{Held, held, fed, read_on}
 use Rattle.lines.proofs.Fed.{read-feed, read_more, read-end, same-behind, but-front}
 use Rattle.lines.proofs.reading.next_line.Goals as goal
@@ -10,10 +10,11 @@ pub returns-then-c-eq10 : goal.returns-then-c-eq10
 returns-then-c-eq10 c =
     let x = c.args in
     let l = c.loop-i in
-    let h = held l.now l.buf in (
-      sym (l.invariant.1 ∙ read-feed (length x.buf.now) h x.chunk.now l.i c.loop-i-test.true c.if-c-eq10.true),
-      but-front l.buf x.buf.now l.now.at l.invariant.0 l.invariant.2,
-    )
+    let h = held l.now l.buf in
+    record {
+      buf_after = sym (l.invariant.1 ∙ read-feed (length x.buf.now) h x.chunk.now l.i c.loop-i-test.true c.if-c-eq10.true);
+      leaves = but-front l.buf x.buf.now l.now.at l.invariant.0 l.invariant.2;
+    }
 
 pub loop-i-preserved : goal.loop-i-preserved
 loop-i-preserved c =
@@ -22,8 +23,8 @@ loop-i-preserved c =
     let n = length x.buf.now in
     let h = held l.now l.buf in
     let o = get_or x.chunk.now l.i 0 in
-    let (later, as-was) = c.feed-next.ensures.1 in
-    let on = c.feed-next.ensures.0 ∙ ap (λ (m : ℕ). fed m h o) l.invariant.0 in (
+    let (later, as-was) = c.feed-next.ensures.leaves in
+    let on = c.feed-next.ensures.buf_after ∙ ap (λ (m : ℕ). fed m h o) l.invariant.0 in (
       search rules,
       l.invariant.1
           ∙ read_more n h x.chunk.now l.i c.loop-i-test.true c.if-c-eq10.false
@@ -34,7 +35,8 @@ loop-i-preserved c =
 pub returns : goal.returns
 returns c =
     let x = c.args in
-    let l = c.loop-i in (
-      sym (l.invariant.1 ∙ read-end (length x.buf.now) (held l.now l.buf) x.chunk.now l.i c.loop-i-test.false),
-      but-front l.buf x.buf.now l.now.at l.invariant.0 l.invariant.2,
-    )
+    let l = c.loop-i in
+    record {
+      buf_after = sym (l.invariant.1 ∙ read-end (length x.buf.now) (held l.now l.buf) x.chunk.now l.i c.loop-i-test.false);
+      leaves = but-front l.buf x.buf.now l.now.at l.invariant.0 l.invariant.2;
+    }

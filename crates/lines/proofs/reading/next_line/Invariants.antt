@@ -1,7 +1,6 @@
 -- At each octet what is read so far, read on through the rest, is the whole reading; behind the line the buffer is as it was.
-use Rattle.std.proofs.Common.{◌≡◌, ℕ, ◌+◌, ◌-◌, length, get_or, drop, sym, refl, ap, ◌∙◌, rules}
-use Rattle.lines.specs.Reading.{Held, held, fed, read_on}
-use Rattle.lines.proofs.Fed.{read-feed, read_more, read-end, same-behind, but-front}
+use Rattle.std.proofs.Common.{◌≡◌, ◌-◌, length, drop}
+use Rattle.lines.specs.Reading.{held, read_on}
 use Rattle.lines.proofs.reading.next_line.Given as goal
 
 abbrev pub invariant-loop-i : goal.invariant-loop-i

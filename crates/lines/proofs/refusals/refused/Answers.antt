@@ -1,5 +1,5 @@
 -- The word `refused`, the number and the word at that number of the table are put one behind the other.
-use Rattle.std.proofs.Common.{ap, rules}
+use Rattle.std.proofs.Common.{ap}
 use Rattle.octets.specs.Parts.{Part}
 use Rattle.lines.proofs.Refusing.{refused-so}
 use Rattle.lines.proofs.refusals.refused.Goals as goal
