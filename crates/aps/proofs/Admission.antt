@@ -24,7 +24,7 @@ use Rattle.board.specs.State.{link_at}
 use Rattle.board.specs.Sending.{Framed, framed}
 use Rattle.seals.specs.declared.Unsealed.{Unsealed}
 use Rattle.seals.specs.declared.Unsealed.TheVariants.{Plain, Forged}
-use Rattle.seals.specs.Sealing.{Fair, message_of, plain_frame, told_unsealed, sound, unsealing}
+use Rattle.seals.specs.Sealing.{Fair, message_of, told_unsealed, sound, unsealing}
 use Rattle.seals.proofs.Opened.{tells-sound}
 use Rattle.seals.proofs.Tells.{plain-tells, forged-tells}
 use Rattle.aps.specs.Opening.{floored, with_floor, admitted}

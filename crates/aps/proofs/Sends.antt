@@ -3,14 +3,13 @@
 use mathlib.Core.Path.{◌≡◌, refl, sym, ap, ap₂, ◌∙◌}
 use mathlib.Core.Bool.{true, not}
 use mathlib.Core.List.{List}
-use Prim.Native.Nat.{ℕ, ◌≤◌, ◌<◌}
+use Prim.Native.Nat.{ℕ, ◌≤◌}
 use native.Mathlib.Omega.{arith}
 use lib.Dec.{eqb, leb}
 use lib.ListN.{length}
 use borrow.Author.Tests.{leb-true, eqb-false, not-true}
 use Rattle.settings.specs.Settings.{Settings, longest, aps_aux, longest_aps_plain}
 use Rattle.octets.specs.Keys.{Key}
-use Rattle.octets.specs.Lists.{onto}
 use Rattle.octets.proofs.Choices.{both-parts}
 use Rattle.answers.specs.Numbers.{done, refused, sealed, turned_down}
 use Rattle.cipher.specs.Answers.{product}

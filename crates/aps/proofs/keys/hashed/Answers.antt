@@ -2,7 +2,6 @@
 use mathlib.Core.Path.{ap, ◌∙◌}
 use mathlib.Core.List.{◌∷◌, []}
 use native.Mathlib.Omega.{arith}
-use Rattle.std.proofs.Common.{rules}
 use Rattle.cipher.specs.Answers.{Product}
 use Rattle.cipher.proofs.Lengths.{keyed-made}
 use Rattle.aps.proofs.keys.hashed.Goals as goal

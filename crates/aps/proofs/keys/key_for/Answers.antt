@@ -1,6 +1,5 @@
 -- The code's two tests are the definition's, and each hash is its own.
 use mathlib.Core.Path.{ap}
-use Rattle.std.proofs.Common.{rules}
 use borrow.Author.Tests.{eq-eqb, ne_eqb}
 use Rattle.octets.specs.Keys.{the_key}
 use Rattle.aps.specs.Keys.{key_for}

@@ -1,6 +1,5 @@
 -- The key of the entry under the identifier of the frame's control, each by its own contract.
 use mathlib.Core.Path.{ap, ◌∙◌}
-use Rattle.std.proofs.Common.{rules}
 use Rattle.octets.specs.Keys.{the_key}
 use Rattle.aps.specs.Keys.{key_for}
 use Rattle.aps.proofs.keys.key_named.Goals as goal

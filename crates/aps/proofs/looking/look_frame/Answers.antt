@@ -1,6 +1,5 @@
 -- Each arm of the reading is the definition's, behind the one test of the length.
 use mathlib.Core.Path.{sym, ap, ◌∙◌}
-use Rattle.std.proofs.Common.{rules}
 use borrow.Author.Tests.{lt-ltb, le-ltb}
 use Rattle.aps.specs.Opening.{look_aps, looked_read}
 use Rattle.frames.specs.Reading.{told_read}

@@ -1,7 +1,6 @@
 -- The tag is looked at under the key of the entry that is found, which is one of the eight.
-use mathlib.Core.Path.{sym, ◌∙◌}
+use mathlib.Core.Path.{sym}
 use native.Mathlib.Omega.{arith}
-use Rattle.std.proofs.Common.{rules}
 use Rattle.aps.specs.Opening.{looked_keyed}
 use Rattle.board.proofs.Found.{link-place}
 use Rattle.aps.proofs.looking.look_keyed.Goals as goal

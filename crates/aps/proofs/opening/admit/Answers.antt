@@ -1,6 +1,5 @@
 -- What unsealing answers, by the laws of seals, is what the definition asks; only a frame that was made moves the floor.
 use mathlib.Core.Path.{ap, ◌∙◌}
-use Rattle.std.proofs.Common.{rules}
 use Rattle.settings.specs.Settings.{ours}
 use Rattle.octets.specs.Keys.{Key}
 use Rattle.seals.specs.Sealing.{message_of}
@@ -12,22 +11,22 @@ use Rattle.aps.proofs.opening.admit.Goals as goal
 pub returns-in-Plain : goal.returns-in-Plain
 returns-in-Plain c =
     let y = c.args in
-    (
-      (λ b el. admit-plain ours ours-fair _ y.f.now y.s y.out.now y.i c.requires.0 c.requires.1.0 _ c.in-Plain.n
+    record {
+      out_after = λ b el. admit-plain ours ours-fair _ y.f.now y.s y.out.now y.i c.requires.0 c.requires.1.0 _ c.in-Plain.n
           _ _ y.l c.in-Plain.is c.unseal.ensures c.identifier.ensures b el ∙ ap
           (λ (k : Key). admitted b y.f.now y.s y.out.now y.i (message_of ours k y.f.now y.s))
-          c.key_named.ensures),
-      moves-this c.requires.1.1.1,
-    )
+          c.key_named.ensures;
+      by_index = moves-this c.requires.1.1.1;
+    }
 
 pub returns-in-Forged : goal.returns-in-Forged
 returns-in-Forged c =
     let y = c.args in
-    (
-      (λ b el. stays _ _ _ c.unmoved.ensures.0 c.unmoved.ensures.1 b
+    record {
+      out_after = λ b el. stays _ _ _ c.unmoved.ensures.0 c.unmoved.ensures.1 b
           ∙ admit-forged ours ours-fair _ y.f.now y.s y.out.now y.i c.requires.0 c.requires.1.0 _ _
           c.in-Forged.is c.unseal.ensures b ∙ ap
           (λ (k : Key). admitted b y.f.now y.s y.out.now y.i (message_of ours k y.f.now y.s))
-          c.key_named.ensures),
-      moves-none c.unmoved.ensures.1,
-    )
+          c.key_named.ensures;
+      by_index = moves-none c.unmoved.ensures.1;
+    }

@@ -8,7 +8,6 @@ use Rattle.board.specs.State.{link_at}
 use Rattle.board.specs.Requests.{link_of}
 use Rattle.board.proofs.Found.{link-place}
 use Rattle.aps.proofs.Admission.{stays, moves-none}
-use Rattle.std.proofs.Common.{rules}
 use Rattle.aps.proofs.opening.open_keyed.Goals as goal
 
 pub offset_bounds-links-i : goal.offset_bounds-links-i
@@ -24,19 +23,19 @@ pub returns-in-At : goal.returns-in-At
 unfolding opened_keyed
 returns-in-At c =
     let y = c.args in
-    (
-      (λ b el. simp (ap (λ (x : List Link). link_of x y.s.sender) el ∙ sym c.in-At.ensures)
-          (c.open_under.ensures.0 b (ap (λ (x : List Link). link_at x c.in-At.i) el))),
-      c.open_under.ensures.1,
-    )
+    record {
+      out_after = λ b el. simp (ap (λ (x : List Link). link_of x y.s.sender) el ∙ sym c.in-At.ensures)
+          (c.open_under.ensures.out_after b (ap (λ (x : List Link). link_at x c.in-At.i) el));
+      by_index = c.open_under.ensures.by_index;
+    }
 
 pub returns-in-Absent : goal.returns-in-Absent
 unfolding opened_keyed
 returns-in-Absent c =
     let y = c.args in
-    (
-      (λ b el. simp
+    record {
+      out_after = λ b el. simp
           (ap (λ (x : List Link). link_of x y.s.sender) el ∙ sym c.in-Absent.ensures)
-          (stays _ _ _ c.unmoved.ensures.0 c.unmoved.ensures.1 b)),
-      moves-none c.unmoved.ensures.1,
-    )
+          (stays _ _ _ c.unmoved.ensures.0 c.unmoved.ensures.1 b);
+      by_index = moves-none c.unmoved.ensures.1;
+    }

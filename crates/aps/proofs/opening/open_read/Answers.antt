@@ -10,72 +10,70 @@ use Rattle.board.specs.Sending.{framed}
 use Rattle.aps.specs.Opening.{open_aps, opened_read}
 use Rattle.frames.specs.Reading.{told_read}
 use Rattle.aps.proofs.Admission.{stays, moves-none, read-sound}
-use Rattle.std.proofs.Common.{rules}
 use Rattle.aps.proofs.opening.open_read.Goals as goal
 
 pub returns-then-out-lt-LONGEST : goal.returns-then-out-lt-LONGEST
 unfolding open_aps
 returns-then-out-lt-LONGEST c =
-    (
-  (λ b el. simp (lt-ltb _ _ c.if-out-lt-LONGEST.true) (stays _ _ _ c.unmoved.ensures.0 c.unmoved.ensures.1 b)),
-  moves-none c.unmoved.ensures.1,
-    )
+    record {
+      out_after = λ b el. simp (lt-ltb _ _ c.if-out-lt-LONGEST.true) (stays _ _ _ c.unmoved.ensures.0 c.unmoved.ensures.1 b);
+      by_index = moves-none c.unmoved.ensures.1;
+    }
 
 pub returns-then-f-gt-LONGEST_APS : goal.returns-then-f-gt-LONGEST_APS
 unfolding open_aps
 returns-then-f-gt-LONGEST_APS c =
-    (
-  (λ b el. simp (le-ltb _ _ c.if-out-lt-LONGEST.false, lt-ltb _ _ c.if-f-gt-LONGEST_APS.true)
-      (stays _ _ _ c.unmoved-then-f-gt-LONGEST_APS.ensures.0 c.unmoved-then-f-gt-LONGEST_APS.ensures.1 b)),
-  moves-none c.unmoved-then-f-gt-LONGEST_APS.ensures.1,
-    )
+    record {
+      out_after = λ b el. simp (le-ltb _ _ c.if-out-lt-LONGEST.false, lt-ltb _ _ c.if-f-gt-LONGEST_APS.true)
+          (stays _ _ _ c.unmoved-then-f-gt-LONGEST_APS.ensures.0 c.unmoved-then-f-gt-LONGEST_APS.ensures.1 b);
+      by_index = moves-none c.unmoved-then-f-gt-LONGEST_APS.ensures.1;
+    }
 
 pub open_keyed-requires : goal.open_keyed-requires
-open_keyed-requires c =
-    (
-      read-sound ours c.args.f.now c.args.given _
-          (sym c.read_frame.ensures ∙ ap told_read c.in-Secured.is) c.if-f-gt-LONGEST_APS.false,
-      c.if-out-lt-LONGEST.false,
-    )
+open_keyed-requires c = (
+  read-sound ours c.args.f.now c.args.given _
+      (sym c.read_frame.ensures ∙ ap told_read c.in-Secured.is) c.if-f-gt-LONGEST_APS.false,
+  c.if-out-lt-LONGEST.false,
+)
 
 pub returns-in-Refused : goal.returns-in-Refused
 unfolding open_aps opened_read
 returns-in-Refused c =
-    (
-      (λ b el. simp (
+    record {
+      out_after = λ b el. simp (
         le-ltb _ _ c.if-out-lt-LONGEST.false,
         le-ltb _ _ c.if-f-gt-LONGEST_APS.false,
         sym c.read_frame.ensures ∙ ap told_read c.in-Refused.is,
       )
-          (stays _ _ _ c.unmoved-in-Refused.ensures.0 c.unmoved-in-Refused.ensures.1 b)),
-      moves-none c.unmoved-in-Refused.ensures.1,
-    )
+          (stays _ _ _ c.unmoved-in-Refused.ensures.0 c.unmoved-in-Refused.ensures.1 b);
+      by_index = moves-none c.unmoved-in-Refused.ensures.1;
+    }
 
 pub returns-in-Plain : goal.returns-in-Plain
 unfolding open_aps opened_read
 returns-in-Plain c =
     let y = c.args in
-    (
-      (λ b el. simp (
+    record {
+      out_after = λ b el. simp (
         le-ltb _ _ c.if-out-lt-LONGEST.false,
         le-ltb _ _ c.if-f-gt-LONGEST_APS.false,
         sym c.read_frame.ensures ∙ ap told_read c.in-Plain.is,
       )
           (stays _ _ _ c.unmoved-in-Plain.ensures.0 c.unmoved-in-Plain.ensures.1 b
           ∙ ap (framed (opened (length y.f.now) 0 clear) b) (pasted-onto _ y.out.now y.f.now c.paste_at.ensures
-          (omega (arith, c.if-out-lt-LONGEST.false, c.if-f-gt-LONGEST_APS.false))))),
-      moves-none c.unmoved-in-Plain.ensures.1,
-    )
+          (omega (arith, c.if-out-lt-LONGEST.false, c.if-f-gt-LONGEST_APS.false))));
+      by_index = moves-none c.unmoved-in-Plain.ensures.1;
+    }
 
 pub returns-in-Secured : goal.returns-in-Secured
 unfolding open_aps opened_read
 returns-in-Secured c =
-    (
-      (λ b el. simp (
+    record {
+      out_after = λ b el. simp (
         le-ltb _ _ c.if-out-lt-LONGEST.false,
         le-ltb _ _ c.if-f-gt-LONGEST_APS.false,
         sym c.read_frame.ensures ∙ ap told_read c.in-Secured.is,
       )
-          (c.open_keyed.ensures.0 b el)),
-      c.open_keyed.ensures.1,
-    )
+          (c.open_keyed.ensures.out_after b el);
+      by_index = c.open_keyed.ensures.by_index;
+    }

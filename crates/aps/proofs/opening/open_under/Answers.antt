@@ -1,6 +1,5 @@
 -- Top and floor are judged as in the definition; a board that has this entry has its floor.
 use mathlib.Core.Path.{sym, ap, ◌∙◌}
-use Rattle.std.proofs.Common.{rules}
 use borrow.Author.Tests.{eq-eqb, ne_eqb, lt-ltb, le-ltb}
 use Rattle.settings.specs.Settings.{ours}
 use Rattle.board.specs.declared.Link.{Link}
@@ -12,28 +11,28 @@ use Rattle.aps.proofs.opening.open_under.Goals as goal
 pub returns-then-s-eq-TOP : goal.returns-then-s-eq-TOP
 unfolding opened_under
 returns-then-s-eq-TOP c =
-    (
-  (λ b el. simp (eq-eqb _ _ c.if-s-eq-TOP.true) (stays _ _ _ c.unmoved.ensures.0 c.unmoved.ensures.1 b)),
-  moves-none c.unmoved.ensures.1,
-    )
+    record {
+      out_after = λ b el. simp (eq-eqb _ _ c.if-s-eq-TOP.true) (stays _ _ _ c.unmoved.ensures.0 c.unmoved.ensures.1 b);
+      by_index = moves-none c.unmoved.ensures.1;
+    }
 
 pub returns-then-s-l : goal.returns-then-s-l
 unfolding opened_under
 returns-then-s-l c =
-    (
-      (λ b el. simp (ne_eqb _ _ c.if-s-eq-TOP.false, ap (λ (l : Link). l.floor) el, lt-ltb _ _ c.if-s-l.true)
-          (stays _ _ _ c.unmoved-then-s-l.ensures.0 c.unmoved-then-s-l.ensures.1 b)),
-      moves-none c.unmoved-then-s-l.ensures.1,
-    )
+    record {
+      out_after = λ b el. simp (ne_eqb _ _ c.if-s-eq-TOP.false, ap (λ (l : Link). l.floor) el, lt-ltb _ _ c.if-s-l.true)
+          (stays _ _ _ c.unmoved-then-s-l.ensures.0 c.unmoved-then-s-l.ensures.1 b);
+      by_index = moves-none c.unmoved-then-s-l.ensures.1;
+    }
 
 pub returns : goal.returns
 unfolding opened_under
 returns c =
     let y = c.args in
-    (
-      (λ b el. simp (ne_eqb _ _ c.if-s-eq-TOP.false, ap (λ (l : Link). l.floor) el, le-ltb _ _ c.if-s-l.false)
-          (c.admit.ensures.0 b el ∙ ap
+    record {
+      out_after = λ b el. simp (ne_eqb _ _ c.if-s-eq-TOP.false, ap (λ (l : Link). l.floor) el, le-ltb _ _ c.if-s-l.false)
+          (c.admit.ensures.out_after b el ∙ ap
           (λ (l : Link). admitted b y.f.now y.s y.out.now y.i (message_of ours (key_named l y.s) y.f.now y.s))
-          (sym el))),
-      c.admit.ensures.1,
-    )
+          (sym el));
+      by_index = c.admit.ensures.by_index;
+    }

@@ -9,7 +9,6 @@ use Rattle.board.specs.declared.Link.{Link}
 use Rattle.board.specs.State.{link_at}
 use Rattle.board.specs.Requests.{link_of}
 use Rattle.board.proofs.Found.{link-place}
-use Rattle.std.proofs.Common.{rules}
 use Rattle.aps.proofs.sealing.seal_for.Goals as goal
 
 pub offset_bounds-links-i : goal.offset_bounds-links-i

@@ -1,7 +1,6 @@
 -- What the stages answer of every board with these links, counter and address, they answer of this one.
 use mathlib.Core.Path.{refl, sym}
 use Rattle.board.proofs.Leaves.{counted}
-use Rattle.std.proofs.Common.{rules}
 use Rattle.aps.proofs.sealing.seal_frame.Goals as goal
 
 pub returns : goal.returns

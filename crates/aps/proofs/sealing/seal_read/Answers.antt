@@ -1,10 +1,9 @@
 -- Output and frame are judged first, then what was read, then the identifier, each as in the definition.
 use mathlib.Core.Path.{sym, ap, ◌∙◌}
-use borrow.Author.Tests.{lt-ltb, le-ltb, not-true, not-false}
+use borrow.Author.Tests.{lt-ltb, le-ltb}
 use Rattle.aps.specs.Sealing.{seal_aps, sealed_read}
 use Rattle.frames.specs.Reading.{told_plain}
 use Rattle.aps.proofs.Sends.{plain-bounds}
-use Rattle.std.proofs.Common.{rules}
 use Rattle.aps.proofs.sealing.seal_read.Goals as goal
 
 pub returns-then-out-lt-LONGEST : goal.returns-then-out-lt-LONGEST
@@ -26,11 +25,10 @@ returns-then-not-is_named c =
     )
 
 pub seal_for-requires : goal.seal_for-requires
-seal_for-requires c =
-    (
-      plain-bounds c.args.f.now _ (sym c.read_plain.ensures ∙ ap told_plain c.in-Header.is),
-      (c.if-f-gt-LONGEST_APS_PLAIN.false, (c.if-out-lt-LONGEST.false, sym c.is_named.ensures ∙ c.if-not-is_named.false)),
-    )
+seal_for-requires c = (
+  plain-bounds c.args.f.now _ (sym c.read_plain.ensures ∙ ap told_plain c.in-Header.is),
+  (c.if-f-gt-LONGEST_APS_PLAIN.false, (c.if-out-lt-LONGEST.false, sym c.is_named.ensures ∙ c.if-not-is_named.false)),
+)
 
 pub returns-in-Refused : goal.returns-in-Refused
 unfolding seal_aps sealed_read

@@ -1,11 +1,9 @@
 -- The board's judgement refuses as the definition does; behind it the frame has what sealing asks, so that it is made.
 use mathlib.Core.Path.{sym, ap, ◌∙◌}
-use Rattle.std.proofs.Common.{rules}
 use Rattle.settings.specs.Settings.{ours}
 use Rattle.octets.specs.Keys.{the_key}
 use Rattle.answers.specs.Numbers.{told}
 use Rattle.frames.specs.declared.Layer.TheVariants.{Aps}
-use Rattle.seals.proofs.Securing.{Sealable}
 use Rattle.seals.proofs.Tells.{never-nothing}
 use Rattle.aps.proofs.Sends.{refused-link, sealed-link, sealable-aps, named-most}
 use Rattle.aps.proofs.sealing.seal_under.Goals as goal

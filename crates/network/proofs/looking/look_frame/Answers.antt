@@ -1,6 +1,5 @@
 -- The length is judged first, then what the frame was read as decides, in code and definition alike.
 use mathlib.Core.Path.{sym, ap, ◌∙◌}
-use Rattle.std.proofs.Common.{rules}
 use borrow.Author.Tests.{lt-ltb, le-ltb}
 use Rattle.network.specs.Opening.{look_network, looked_read}
 use Rattle.frames.specs.Reading.{told_read}

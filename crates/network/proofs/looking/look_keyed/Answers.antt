@@ -1,7 +1,6 @@
 -- The place that `slot_of` answers decides; that it is a slot is what a search tells of its answer.
-use mathlib.Core.Path.{sym, ◌∙◌}
+use mathlib.Core.Path.{sym}
 use native.Mathlib.Omega.{arith}
-use Rattle.std.proofs.Common.{rules}
 use Rattle.network.specs.Opening.{looked_keyed}
 use Rattle.board.proofs.Found.{slot-place}
 use Rattle.network.proofs.looking.look_keyed.Goals as goal

@@ -1,5 +1,4 @@
 -- What `unseal` answers tells whether the tag fits; lists and floor change in that case alone.
-use Rattle.std.proofs.Common.{rules}
 use Rattle.settings.specs.Settings.{ours}
 use Rattle.octets.specs.Keys.{the_key}
 use Rattle.seals.proofs.Fairly.{ours-fair}
@@ -11,12 +10,12 @@ pub returns-in-Plain : goal.returns-in-Plain
 returns-in-Plain c =
     let y = c.args in
     let w = lent y.addrs.now y.floors.now y.out.now in
-    admit-plain ours (the_key y.key) y.f.now y.s ours-fair w c.requires.0.0 c.requires.0.1.0 _
+    admit-plain ours (the_key y.key) y.f.now y.s ours-fair w c.requires.s_value.0 c.requires.s_value.1.0 _
     c.in-Plain.n y.r _ c.in-Plain.is c.unseal.ensures
 
 pub returns-in-Forged : goal.returns-in-Forged
 returns-in-Forged c =
     let y = c.args in
     let w = lent y.addrs.now y.floors.now y.out.now in
-    admit-forged ours (the_key y.key) y.f.now y.s ours-fair w c.requires.0.0 c.requires.0.1.0 _ _ _
+    admit-forged ours (the_key y.key) y.f.now y.s ours-fair w c.requires.s_value.0 c.requires.s_value.1.0 _ _ _
     c.in-Forged.is c.unseal.ensures

@@ -1,19 +1,15 @@
 -- Each refusal is the definition's test of the same place, and a frame that was read as secured is what it announces.
-use mathlib.Core.Path.{◌≡◌, sym, ap, ◌∙◌}
-use mathlib.Core.Bool.{true, false}
+use mathlib.Core.Path.{sym, ap, ◌∙◌}
 use mathlib.Core.List.{List}
 use Prim.Native.Nat.{ℕ}
 use native.Mathlib.Omega.{arith}
-use lib.Dec.{leb, ltb}
 use lib.ListN.{length}
-use Rattle.std.proofs.Common.{rules}
-use borrow.Author.Tests.{lt-ltb, le-ltb, lt-leb, le-leb, not-true, not-false}
+use borrow.Author.Tests.{lt-ltb, le-ltb, lt-leb, le-leb}
 use Rattle.octets.proofs.Pasted.{pasted-onto}
 use Rattle.network.specs.Opening.{lent, leaving, open_network, opened_read}
-use Rattle.settings.specs.Settings.{ours, longest}
+use Rattle.settings.specs.Settings.{ours}
 use Rattle.answers.specs.Numbers.{opened, clear}
 use Rattle.frames.specs.Reading.{told_read}
-use Rattle.board.specs.Rows.{lists, lists_fit}
 use Rattle.board.proofs.Halves.{lists-long}
 use Rattle.network.proofs.Admission.{read-sound}
 use Rattle.network.proofs.opening.open_frame.Goals as goal

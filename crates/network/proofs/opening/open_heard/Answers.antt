@@ -1,5 +1,4 @@
 -- The floor read is that of the sender's row, and the test of the counter is the definition's.
-use Rattle.std.proofs.Common.{rules}
 use borrow.Author.Tests.{lt-ltb, le-ltb}
 use Rattle.network.specs.Code.{opened_heard}
 use Rattle.network.proofs.opening.open_heard.Goals as goal

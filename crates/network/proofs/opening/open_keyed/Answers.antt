@@ -1,7 +1,6 @@
 -- The place that `slot_of` answers decides; that it is a slot is what a search tells of its answer.
-use mathlib.Core.Path.{sym, ◌∙◌}
+use mathlib.Core.Path.{sym}
 use native.Mathlib.Omega.{arith}
-use Rattle.std.proofs.Common.{rules}
 use Rattle.network.specs.Opening.{opened_keyed}
 use Rattle.board.proofs.Found.{slot-place}
 use Rattle.network.proofs.opening.open_keyed.Goals as goal
@@ -15,7 +14,7 @@ bounds-slots-i c = slot-place _ _ _ (sym c.in-At.ensures)
 pub open_under-requires : goal.open_under-requires
 open_under-requires c =
     let place = slot-place _ _ _ (sym c.in-At.ensures) in
-    ((c.requires.0, c.requires.1.0), (place, c.requires.1.1))
+    record { s_value = (c.requires.0, c.requires.1.0); i_bound = (place, c.requires.1.1) }
 
 pub returns-in-At : goal.returns-in-At
 unfolding opened_keyed

@@ -1,18 +1,17 @@
 -- The row is the lowest with address 0, which is the definition's free row; that the lists have it is what a search tells.
-use mathlib.Core.Path.{sym, ◌∙◌}
-use Prim.Native.Nat.{◌<◌}
+use mathlib.Core.Path.{sym}
 use native.Mathlib.Omega.{arith}
-use lib.ListN.{length}
-use Rattle.std.proofs.Common.{rules}
 use Rattle.board.proofs.Found.{row-place}
 use Rattle.board.proofs.Halves.{slot-start}
 use Rattle.network.proofs.opening.open_new.Goals as goal
 
 pub overflow_mul-i : goal.overflow_mul-i
-overflow_mul-i c = record { fits = omega (arith, slot-start c.args.rows c.args.i c.requires.1.0, c.fits.rows) }
+overflow_mul-i c = record { fits = omega (arith, slot-start c.args.rows c.args.i c.requires.i_bound.0) }
 
 pub admit-requires : goal.admit-requires
-admit-requires c = (c.requires.0, ((row-place _ _ _ _ _ (sym c.in-At.ensures)), omega (arith, (row-place _ _ _ _ _ (sym c.in-At.ensures)), c.requires.1.1)))
+admit-requires c =
+    let there = row-place _ _ _ _ _ (sym c.in-At.ensures) in
+    record { s_value = c.requires.s_value; r_in_bounds = (there, omega (arith, there, c.requires.i_bound.1)) }
 
 pub returns-in-At : goal.returns-in-At
 returns-in-At c = simp (sym c.in-At.ensures) c.admit.ensures

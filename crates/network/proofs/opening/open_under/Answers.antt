@@ -2,7 +2,6 @@
 use mathlib.Core.Path.{sym, ◌∙◌}
 use Prim.Native.Nat.{◌<◌}
 use native.Mathlib.Omega.{arith}
-use lib.ListN.{length}
 use Rattle.std.proofs.Common.{rules}
 use borrow.Author.Tests.{eq-eqb}
 use Rattle.settings.specs.Settings.{ours, top}
@@ -13,20 +12,26 @@ use Rattle.network.specs.Opening.{lent, opened_under}
 use Rattle.network.proofs.Admission.{under-heard, under-new}
 use Rattle.network.proofs.opening.open_under.Goals as goal
 
--- a 32-bit counter that is not the top is below it
-
 pub returns-then-s-eq-TOP : goal.returns-then-s-eq-TOP
 unfolding opened_under
 returns-then-s-eq-TOP c = simp (eq-eqb _ _ c.if-s-eq-TOP.true)
 
 pub overflow_mul-i : goal.overflow_mul-i
-overflow_mul-i c = record { fits = omega (arith, slot-start c.args.rows c.args.i c.requires.1.0, c.fits.rows) }
+overflow_mul-i c = record { fits = omega (arith, slot-start c.args.rows c.args.i c.requires.i_bound.0) }
 
 pub open_heard-requires : goal.open_heard-requires
-open_heard-requires c = ((c.requires.0.0, (c.requires.0.1, (let below : c.args.s.counter < top = search rules in below))), ((row-place _ _ _ _ _ (sym c.in-At.ensures)), omega (arith, (row-place _ _ _ _ _ (sym c.in-At.ensures)), c.requires.1.1)))
+open_heard-requires c =
+    let below : c.args.s.counter < top = search rules in
+    let there = row-place _ _ _ _ _ (sym c.in-At.ensures) in
+    record {
+      s_value = (c.requires.s_value.0, (c.requires.s_value.1, below));
+      r_in_bounds = (there, omega (arith, there, c.requires.i_bound.1));
+    }
 
 pub open_new-requires : goal.open_new-requires
-open_new-requires c = ((c.requires.0.0, (c.requires.0.1, (let below : c.args.s.counter < top = search rules in below))), c.requires.1)
+open_new-requires c =
+    let below : c.args.s.counter < top = search rules in
+    record { s_value = (c.requires.s_value.0, (c.requires.s_value.1, below)); i_bound = c.requires.i_bound }
 
 pub returns-in-At : goal.returns-in-At
 returns-in-At c =

@@ -1,7 +1,6 @@
 -- `look` tells whether the tag fits, and `admitted` without a row is 10 or 9 by just that.
 use mathlib.Core.Path.{sym, ◌∙◌}
 use mathlib.Core.Bool.{true, false}
-use Rattle.std.proofs.Common.{rules}
 use Rattle.settings.specs.Settings.{ours}
 use Rattle.octets.specs.Keys.{the_key}
 use Rattle.network.proofs.Admission.{away}

@@ -6,7 +6,6 @@ use Rattle.network.specs.Sealing.{sealed_by, sealed_under}
 use Rattle.board.specs.declared.Slot.{Slot}
 use Rattle.board.specs.State.{slot_at}
 use Rattle.settings.specs.Settings.{ours}
-use Rattle.std.proofs.Common.{rules}
 use Rattle.network.proofs.sealing.seal_active.Goals as goal
 
 pub returns-then-i-gt1 : goal.returns-then-i-gt1
@@ -18,7 +17,7 @@ unfolding sealed_by
 returns-then-not-s c =
     λ b es en. simp (
       le-leb _ _ c.if-i-gt1.false,
-      ap (λ (x : List Slot). (slot_at x c.args.i).present) es ∙ not-true (slot_at c.args.t1 c.args.i).present
+      ap (λ (x : List Slot). (slot_at x c.args.i).present) es ∙ not-true (slot_at c.args.slots c.args.i).present
           c.if-not-s.true,
     )
 
@@ -28,7 +27,7 @@ returns c =
     λ b es en. let y = c.args in
     simp (
       le-leb _ _ c.if-i-gt1.false,
-      ap (λ (x : List Slot). (slot_at x y.i).present) es ∙ not-false (slot_at y.t1 y.i).present c.if-not-s.false,
+      ap (λ (x : List Slot). (slot_at x y.i).present) es ∙ not-false (slot_at y.slots y.i).present c.if-not-s.false,
     )
     (c.seal_under.ensures b en ∙ ap
     (λ (x : List Slot). sealed_under ours b y.f.now y.out.now y.h (slot_at x y.i)) (sym es))

@@ -1,6 +1,5 @@
 -- The active mark decides, in code and definition alike.
 use Rattle.network.specs.Sealing.{sealed_by}
-use Rattle.std.proofs.Common.{rules}
 use Rattle.network.proofs.sealing.seal_by.Goals as goal
 
 pub returns-in-Nobody : goal.returns-in-Nobody

@@ -1,7 +1,6 @@
 -- The stages were handed this board's own parts, and the counter behind the answer is the definition's.
 use mathlib.Core.Path.{refl, sym}
 use Rattle.board.proofs.Leaves.{counted}
-use Rattle.std.proofs.Common.{rules}
 use Rattle.network.proofs.sealing.seal_frame.Goals as goal
 
 pub returns : goal.returns

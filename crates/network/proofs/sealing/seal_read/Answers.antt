@@ -5,7 +5,6 @@ use Rattle.network.specs.Sealing.{seal_network, sealed_read, sealed_by}
 use Rattle.frames.specs.Reading.{told_plain}
 use Rattle.network.proofs.Sends.{plain-bounds}
 use Rattle.settings.specs.Settings.{ours}
-use Rattle.std.proofs.Common.{rules}
 use Rattle.network.proofs.sealing.seal_read.Goals as goal
 
 pub returns-then-out-lt-LONGEST : goal.returns-then-out-lt-LONGEST
@@ -17,12 +16,11 @@ unfolding seal_network
 returns-then-f-gt-LONGEST_PLAIN c = λ b es ea en. simp (le-ltb _ _ c.if-out-lt-LONGEST.false, lt-ltb _ _ c.if-f-gt-LONGEST_PLAIN.true)
 
 pub seal_by-requires : goal.seal_by-requires
-seal_by-requires c =
-    (
-      plain-bounds c.args.f.now _
-          (sym c.read_plain.ensures ∙ ap told_plain c.in-Header.is),
-      (c.if-f-gt-LONGEST_PLAIN.false, c.if-out-lt-LONGEST.false),
-    )
+seal_by-requires c = (
+  plain-bounds c.args.f.now _
+      (sym c.read_plain.ensures ∙ ap told_plain c.in-Header.is),
+  (c.if-f-gt-LONGEST_PLAIN.false, c.if-out-lt-LONGEST.false),
+)
 
 pub returns-in-Refused : goal.returns-in-Refused
 unfolding seal_network sealed_read

@@ -1,13 +1,11 @@
 -- The counter is judged before the key is used; that the frame can be sealed was judged before, so `seal` makes it.
 use mathlib.Core.Path.{sym, ap, ◌∙◌}
 use native.Mathlib.Omega.{arith}
-use Rattle.std.proofs.Common.{rules}
 use Rattle.settings.specs.Settings.{ours}
 use Rattle.octets.specs.Keys.{the_key}
 use Rattle.answers.specs.Numbers.{told}
 use Rattle.frames.specs.declared.Layer.TheVariants.{Network}
 use Rattle.seals.proofs.Fairly.{ours-fair}
-use Rattle.seals.proofs.Securing.{Sealable}
 use Rattle.seals.proofs.Tells.{never-nothing}
 use Rattle.network.specs.Sealing.{identifier}
 use Rattle.network.proofs.Sends.{sealable-net, refused-slot, sealed-slot}
