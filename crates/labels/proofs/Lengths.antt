@@ -64,22 +64,22 @@ passed : (c : ℕ) (s : List ℕ) → separator c ≡ true → Digits s Octet �
 unfolding digits_in
 passed c s h w = record { plain = rw h w.plain; pairs = rw h w.pairs }
 
-all_digits : (s : List ℕ) (n : Next) → spells_on s n ≡ true → Digits s n
+digits-on : (s : List ℕ) (n : Next) → spells_on s n ≡ true → Digits s n
 unfolding spells_on digits_in all_digits
-all_digits [] Octet e = never e
-all_digits [] Digit e = never e
-all_digits [] Behind e = record { plain = refl; pairs = refl }
-all_digits [] Wrong e = never e
-all_digits (c ∷ s) Octet e = let p = both-parts (hex_digit c) (spells_on s Digit) e in led c s Octet Digit p.0 (all_digits s Digit p.1) refl
-all_digits (c ∷ s) Digit e = let p = both-parts (hex_digit c) (spells_on s Behind) e in led c s Digit Behind p.0 (all_digits s Behind p.1) refl
-all_digits (c ∷ s) Behind e = go (separator c) refl e (all_digits s Octet) (all_digits s Digit)
+digits-on [] Octet e = never e
+digits-on [] Digit e = never e
+digits-on [] Behind e = record { plain = refl; pairs = refl }
+digits-on [] Wrong e = never e
+digits-on (c ∷ s) Octet e = let p = both-parts (hex_digit c) (spells_on s Digit) e in led c s Octet Digit p.0 (digits-on s Digit p.1) refl
+digits-on (c ∷ s) Digit e = let p = both-parts (hex_digit c) (spells_on s Behind) e in led c s Digit Behind p.0 (digits-on s Behind p.1) refl
+digits-on (c ∷ s) Behind e = go (separator c) refl e (digits-on s Octet) (digits-on s Digit)
   where
     go : (t : Bool) → separator c ≡ t → (if t then spells_on s Octet else both (hex_digit c) (spells_on s Digit)) ≡ true
         → (spells_on s Octet ≡ true → Digits s Octet) → (spells_on s Digit ≡ true → Digits s Digit) → Digits (c ∷ s) Behind
     go true h q f g = passed c s h (f q)
     go false h q f g = let p = both-parts (hex_digit c) (spells_on s Digit) q in led c s Behind Digit p.0 (g p.1) refl
-all_digits (c ∷ s) Wrong e = never e
+digits-on (c ∷ s) Wrong e = never e
 
 -- two digits for each octet, and nothing besides
 pub spelt-digits : (s : List ℕ) → spells s ≡ true → Digits s Octet
-spelt-digits s e = all_digits s Octet (sym (spells-on s) ∙ e)
+spelt-digits s e = digits-on s Octet (sym (spells-on s) ∙ e)

@@ -1,5 +1,6 @@
 -- Each length that is allowed has its arm; in the last arm it is none of them.
-use borrow.Author.Tests.{ne_eqb}
+use native.Mathlib.Omega.{arith}
+use Rattle.std.proofs.Common.{◌≢◌, ne_eqb}
 use Rattle.labels.specs.Codes.{code_length}
 use Rattle.labels.proofs.codes.code_length.Goals as goal
 
@@ -22,5 +23,8 @@ returns-in-16 c = simp c.in-16.is
 pub returns-in_default : goal.returns-in_default
 unfolding code_length
 returns-in_default c =
-    let r = c.in_default.rest in
-    simp (ne_eqb _ _ r.0.0.0.1, ne_eqb _ _ r.0.0.1, ne_eqb _ _ r.0.1, ne_eqb _ _ r.1)
+    let n6 : c.args.n ≢ 6 = omega arith in
+    let n8 : c.args.n ≢ 8 = omega arith in
+    let n12 : c.args.n ≢ 12 = omega arith in
+    let n16 : c.args.n ≢ 16 = omega arith in
+    simp (ne_eqb _ _ n6, ne_eqb _ _ n8, ne_eqb _ _ n12, ne_eqb _ _ n16)

@@ -1,7 +1,7 @@
-use mathlib.Core.Path.{◌≡◌, sym, ap, ◌∙◌}
-use Prim.Native.Nat.{◌≤◌, ◌-◌, ◌+◌}
+use mathlib.Core.Path.{sym, ap, ◌∙◌}
+use Prim.Native.Nat.{◌+◌}
 use lib.Bits.{bit_xor}
-use lib.ListN.{length, drop}
+use lib.ListN.{drop}
 use Rattle.std.proofs.Common.{rules}
 use Rattle.labels.specs.Crc.{ones, register, crc}
 use Rattle.labels.proofs.Crcs.{octet-more, octet-end}

@@ -1,11 +1,8 @@
 -- The loop keeps: the register, with the octets from i on taken in, is what it is after all of them.
-use mathlib.Core.Path.{◌≡◌, sym, ap, ◌∙◌}
-use Prim.Native.Nat.{◌≤◌, ◌-◌, ◌+◌}
-use lib.Bits.{bit_xor}
+use mathlib.Core.Path.{◌≡◌}
+use Prim.Native.Nat.{◌≤◌}
 use lib.ListN.{length, drop}
-use Rattle.std.proofs.Common.{rules}
-use Rattle.labels.specs.Crc.{ones, register, crc}
-use Rattle.labels.proofs.Crcs.{octet-more, octet-end}
+use Rattle.labels.specs.Crc.{ones, register}
 use Rattle.labels.proofs.crc.crc_of.Given as goal
 
 abbrev pub invariant-loop-i : goal.invariant-loop-i

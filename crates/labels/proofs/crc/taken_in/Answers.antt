@@ -1,6 +1,5 @@
-use mathlib.Core.Path.{◌≡◌, refl, sym, ap, ◌∙◌}
-use Prim.Native.Nat.{◌≤◌, ◌-◌, ◌+◌}
-use lib.Bits.{bit_xor}
+use mathlib.Core.Path.{refl, sym, ap, ◌∙◌}
+use Prim.Native.Nat.{◌-◌, ◌+◌}
 use Rattle.std.proofs.Common.{rules}
 use Rattle.labels.specs.Crc.{shifted_by, taken_in}
 use Rattle.labels.proofs.Crcs.{bit-more, bit-end}

@@ -1,10 +1,8 @@
 -- The loop keeps: the bits that are still to be shifted give what all eight give.
-use mathlib.Core.Path.{◌≡◌, refl, sym, ap, ◌∙◌}
-use Prim.Native.Nat.{◌≤◌, ◌-◌, ◌+◌}
+use mathlib.Core.Path.{◌≡◌}
+use Prim.Native.Nat.{◌≤◌, ◌-◌}
 use lib.Bits.{bit_xor}
-use Rattle.std.proofs.Common.{rules}
-use Rattle.labels.specs.Crc.{shifted_by, taken_in}
-use Rattle.labels.proofs.Crcs.{bit-more, bit-end}
+use Rattle.labels.specs.Crc.{shifted_by}
 use Rattle.labels.proofs.crc.taken_in.Given as goal
 
 abbrev pub invariant-loop : goal.invariant-loop

@@ -1,5 +1,4 @@
 -- The code's test is the definition's.
-use Rattle.std.proofs.Common.{rules}
 use borrow.Author.Tests.{lt-ltb, le-ltb}
 use Rattle.labels.specs.Spelling.{digit_in}
 use Rattle.labels.proofs.printing.capital.Goals as goal

@@ -1,15 +1,10 @@
 -- The loop keeps: the first k - 1 places of the text are laid, and behind them stands what stood there.
-use mathlib.Core.Path.{◌≡◌, refl, sym, ap, ap₂, ◌∙◌}
-use mathlib.Core.List.{List, ◌++◌}
-use Prim.Native.Nat.{ℕ, ◌≤◌, ◌-◌, ◌+◌, ◌*◌}
-use native.Mathlib.Omega.{arith}
-use lib.ListN.{length, take, drop, set, length-set}
-use lib.Seq.{take-length}
-use Rattle.std.proofs.Common.{rules}
-use Rattle.text.proofs.Placed.{front-more}
+use mathlib.Core.Path.{◌≡◌}
+use mathlib.Core.List.{◌++◌}
+use Prim.Native.Nat.{◌≤◌, ◌-◌, ◌*◌}
+use lib.ListN.{length, take, drop}
 use Rattle.labels.specs.Spelling.{in_print}
 use Rattle.labels.specs.Printing.{as_printed}
-use Rattle.labels.proofs.Prints.{length-print}
 use Rattle.labels.proofs.printing.lay_text.Given as goal
 
 abbrev pub invariant-loop-k : goal.invariant-loop-k

@@ -4,8 +4,6 @@ use mathlib.Core.Bool.{Bool, true}
 use Prim.Native.Nat.{◌-◌}
 use native.Mathlib.Omega.{arith}
 use lib.ListN.{length, take, drop, replicate}
-use Rattle.std.proofs.Common.{rules}
-use borrow.Author.Tests.{not-true, not-false}
 use Rattle.octets.specs.Least.{spelled}
 use Rattle.octets.specs.Lists.{eq_list, pasted}
 use Rattle.octets.specs.Parts.{Part}
@@ -16,18 +14,19 @@ use Rattle.labels.specs.Codes.{code_length}
 use Rattle.labels.proofs.Lengths.{code-most}
 use Rattle.labels.proofs.Judging.{crc-told, judged-few, judged-length, judged-crc, judged-good}
 use Rattle.labels.proofs.reading.judge.Goals as goal
+use Rattle.labels.proofs.reading.judge.Goals.{Else-not-code_length, After-front-code, After-same}
 
-allowed : (c : goal.Else-not-code_length) → let s : goal.Start = search in code_length (length s.args.o.now - 2) ≡ true
+allowed : (c : Else-not-code_length) → code_length (length c.args.o.now - 2) ≡ true
 allowed c = sym c.code_length.ensures ∙ c.if-not-code_length.false
 
-code : (c : goal.After-front-code) → let s : goal.Start = search in c.front-code.result.now ≡ take (length s.args.o.now - 2) s.args.o.now
+code : (c : After-front-code) → c.front-code.result.now ≡ take (length c.args.o.now - 2) c.args.o.now
 code c = ap (λ (p : Part). p.octets) c.front-code.ensures
 
-compared : (c : goal.After-same) → let s : goal.Start = search in let o = s.args.o.now in (t : Bool) → c.same.result ≡ t
+compared : (c : After-same) → let o = c.args.o.now in (t : Bool) → c.same.result ≡ t
     → eq_list (drop (length o - 2) o) (spelled 2 (crc (take (length o - 2) o))) ≡ t
 compared c t e =
     let o = c.args.o.now in
-    crc-told o _ (length o - 2) _ t c.same.ensures (c.crc_octets-crc.ensures ∙ ap (λ x. spelled 2 (crc x)) (code (search))) e
+    crc-told o _ (length o - 2) _ t c.same.ensures (c.crc_octets-crc.ensures ∙ ap (λ x. spelled 2 (crc x)) (code (goal.at.After-same c).After-front-code)) e
 
 pub returns-then-o-lt2 : goal.returns-then-o-lt2
 returns-then-o-lt2 c = c.no_code.ensures ∙ sym (judged-few c.args.o.now c.if-o-lt2.true)
@@ -39,13 +38,15 @@ returns-then-not-code_length c =
 
 pub returns-then-not-same : goal.returns-then-not-same
 returns-then-not-same c =
+    let at = goal.at.returns-then-not-same c in
     c.no_code-then-not-same.ensures
-    ∙ sym (judged-crc c.args.o.now (allowed (search)) (compared (search) _ (c.if-not-same.true)))
+    ∙ sym (judged-crc c.args.o.now (allowed at.Else-not-code_length) (compared at.After-same _ c.if-not-same.true))
 
 pub returns : goal.returns
 returns c =
+    let at = goal.at.returns c in
     let o = c.args.o.now in
-    let most = code-most _ (allowed (search)) in
-    judged-good o (allowed (search)) _ _ (compared (search) _ (c.if-not-same.false))
-    (c.paste_at.ensures ∙ ap (pasted (replicate 16 0) 0) (code (search)))
+    let most = code-most _ (allowed at.Else-not-code_length) in
+    judged-good o (allowed at.Else-not-code_length) _ _ (compared at.After-same _ c.if-not-same.false)
+    (c.paste_at.ensures ∙ ap (pasted (replicate 16 0) 0) (code at.After-front-code))
     (ap (λ (x : Product). x.octets) (c.hash-hashed.ensures ∙ hashing-made o (omega arith)))

@@ -1,13 +1,8 @@
 -- The loop keeps: n and the digits from i on are all digits; n is at most i, so it does not overflow.
-use mathlib.Core.Path.{◌≡◌, sym, ap, ◌∙◌}
-use mathlib.Core.Logic.{⊎_elim}
-use Prim.Native.Nat.{◌≤◌, ◌-◌, ◌+◌}
-use native.Mathlib.Omega.{arith}
+use mathlib.Core.Path.{◌≡◌}
+use Prim.Native.Nat.{◌≤◌, ◌+◌}
 use lib.ListN.{length, drop}
-use Rattle.std.proofs.Common.{rules}
-use borrow.Author.Tests.{not-true, not-false}
 use Rattle.labels.specs.Reading.{digits_in}
-use Rattle.labels.proofs.Texts.{digits-pass, digits-take, digits-end}
 use Rattle.labels.proofs.spelling.count_digits.Given as goal
 
 abbrev pub invariant-loop-i : goal.invariant-loop-i

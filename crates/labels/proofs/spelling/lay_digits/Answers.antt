@@ -1,12 +1,9 @@
-use mathlib.Core.Path.{◌≡◌, refl, sym, ◌∙◌}
-use mathlib.Core.Logic.{⊎_elim}
-use Prim.Native.Nat.{◌≤◌, ◌-◌, ◌+◌}
+use mathlib.Core.Path.{refl, sym, ◌∙◌}
 use native.Mathlib.Omega.{arith}
-use lib.ListN.{length, get_or, set}
 use Rattle.std.proofs.Common.{rules}
-use borrow.Author.Tests.{not-true, not-false}
-use Rattle.labels.proofs.Texts.{Laid, laid_none, laid-pass, laid-room, laid_more, laid-all}
+use Rattle.labels.proofs.Texts.{laid_none, laid-pass, laid-room, laid_more, laid-all}
 use Rattle.labels.proofs.spelling.lay_digits.Goals as goal
+use Rattle.labels.proofs.spelling.lay_digits.Goals.{then-not-is_separator, else-not-is_separator}
 
 pub loop-i-init : goal.loop-i-init
 loop-i-init c = (search rules, refl, laid_none c.args.s.now c.args.out.now)
@@ -27,13 +24,14 @@ loop-i-preserved c =
     let told = c.is_separator.ensures in (
       search rules,
       refl,
-      ⊎_elim
-          (λ w. let p : c.if-not-is_separator.out ≡ set l.out l.n (get_or s l.i 0) = w.1 in
-          let q : c.if-not-is_separator.n ≡ l.n + 1 = w.2 in
-          rw (p, q) (laid_more s o l.i l.n l.out l.invariant.2 (search rules) (sym told ∙ not-true _ w.0.true) c.requires))
-          (λ w. let p : c.if-not-is_separator.out ≡ l.out = w.1 in
-          let q : c.if-not-is_separator.n ≡ l.n = w.2 in
-          rw (p, q) (laid-pass s o l.i l.n l.out l.invariant.2 (search rules) (sym told ∙ not-false _ w.0.left))) c.if-not-is_separator.branch,
+      elim c.if-not-is_separator.branch [
+        | then-not-is_separator w ↦
+            rw (w.out-is, w.n-is)
+            (laid_more s o l.i l.n l.out l.invariant.2 (search rules) (sym told ∙ w.if-not-is_separator.true) c.requires)
+        | else-not-is_separator w ↦
+            rw (w.out-is, w.n-is)
+            (laid-pass s o l.i l.n l.out l.invariant.2 (search rules) (sym told ∙ w.if-not-is_separator.false))
+      ],
     )
 
 pub shape_of-out : goal.shape_of-out

@@ -1,12 +1,8 @@
 -- The loop keeps: the digits of what was read are laid, and behind them stands what stood there.
-use mathlib.Core.Path.{◌≡◌, refl, sym, ◌∙◌}
-use mathlib.Core.Logic.{⊎_elim}
-use Prim.Native.Nat.{◌≤◌, ◌-◌, ◌+◌}
-use native.Mathlib.Omega.{arith}
-use lib.ListN.{length, get_or, set}
-use Rattle.std.proofs.Common.{rules}
-use borrow.Author.Tests.{not-true, not-false}
-use Rattle.labels.proofs.Texts.{Laid, laid_none, laid-pass, laid-room, laid_more, laid-all}
+use mathlib.Core.Path.{◌≡◌}
+use Prim.Native.Nat.{◌≤◌}
+use lib.ListN.{length}
+use Rattle.labels.proofs.Texts.{Laid}
 use Rattle.labels.proofs.spelling.lay_digits.Given as goal
 
 abbrev pub invariant-loop-i : goal.invariant-loop-i

@@ -1,5 +1,4 @@
 -- Each case answers as the definition does of an empty text.
-use Rattle.std.proofs.Common.{rules}
 use Rattle.labels.specs.Code.{spells_on}
 use Rattle.labels.proofs.spelling.may_end.Goals as goal
 

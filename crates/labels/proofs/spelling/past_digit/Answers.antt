@@ -1,5 +1,4 @@
 -- Each case goes on as the definition does with a digit, which is no separator.
-use Rattle.std.proofs.Common.{rules}
 use Rattle.labels.specs.Code.{spells_on}
 use Rattle.labels.proofs.Texts.{digit-separator, wrong_stays}
 use Rattle.labels.proofs.spelling.past_digit.Goals as goal

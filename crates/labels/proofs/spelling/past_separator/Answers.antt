@@ -1,5 +1,4 @@
 -- Each case goes on as the definition does with a separator, which is no digit.
-use Rattle.std.proofs.Common.{rules}
 use Rattle.labels.specs.Code.{spells_on}
 use Rattle.labels.proofs.Texts.{separator-digit, wrong_stays}
 use Rattle.labels.proofs.spelling.past_separator.Goals as goal

@@ -1,9 +1,8 @@
-use mathlib.Core.Path.{◌≡◌, sym, ap, ◌∙◌}
-use Prim.Native.Nat.{◌≤◌, ◌-◌, ◌+◌}
-use lib.ListN.{length, drop}
+use mathlib.Core.Path.{sym, ap, ◌∙◌}
+use Prim.Native.Nat.{◌+◌}
+use lib.ListN.{drop}
 use Rattle.std.proofs.Common.{rules}
 use Rattle.octets.proofs.Tabs.{drop-step}
-use Rattle.labels.specs.Reading.{spells}
 use Rattle.labels.specs.Code.{spells_on}
 use Rattle.labels.proofs.Texts.{spells-on, spells-end}
 use Rattle.labels.proofs.spelling.spells.Goals as goal

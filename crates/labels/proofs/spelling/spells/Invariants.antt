@@ -1,12 +1,9 @@
 -- The loop keeps: the whole text spells just where what is left of it spells on. At the end nothing is left.
-use mathlib.Core.Path.{◌≡◌, sym, ap, ◌∙◌}
-use Prim.Native.Nat.{◌≤◌, ◌-◌, ◌+◌}
+use mathlib.Core.Path.{◌≡◌}
+use Prim.Native.Nat.{◌≤◌}
 use lib.ListN.{length, drop}
-use Rattle.std.proofs.Common.{rules}
-use Rattle.octets.proofs.Tabs.{drop-step}
 use Rattle.labels.specs.Reading.{spells}
 use Rattle.labels.specs.Code.{spells_on}
-use Rattle.labels.proofs.Texts.{spells-on, spells-end}
 use Rattle.labels.proofs.spelling.spells.Given as goal
 
 abbrev pub invariant-loop-i : goal.invariant-loop-i

@@ -1,7 +1,6 @@
 -- A separator, a digit, or neither: of each the text spells on as the definition says.
 use mathlib.Core.Path.{sym, ◌∙◌}
 use native.Mathlib.Omega.{arith}
-use Rattle.std.proofs.Common.{rules}
 use borrow.Author.Tests.{lt-ltb, le-ltb}
 use Rattle.text.specs.Digits.{digit_of}
 use Rattle.labels.specs.Reading.{hex_digit}
