@@ -1,6 +1,8 @@
 // Answers in the words of the bench language.
 use answers::Outcome;
 use lines::{Answer, first, refused};
+use std::io;
+use std::io::Write;
 
 pub(crate) fn done() -> Answer {
     first(b"ok")
@@ -14,8 +16,8 @@ pub(crate) fn told(outcome: Outcome) -> Answer {
 }
 
 // Writes an answer behind its line's number.
-pub(crate) fn say(number: u64, a: Answer) {
+pub(crate) fn say<W: Write>(output: &mut W, number: u64, a: Answer) -> io::Result<()> {
     let line = lines::whole_line(number, a);
     let octets = line.octets;
-    io::write_all(1, text::front(&octets, line.n));
+    output.write_all(text::front(&octets, line.n))
 }

@@ -23,8 +23,10 @@ mod routing;
 mod sealing;
 mod show;
 
-fn main() {
+use std::io;
+
+fn main(rt: HostRuntime) -> io::Result<()> {
     let mut chunk = [0u8; 4096];
     let mut line = [0u8; 2048];
-    input::run(&mut chunk, &mut line);
+    input::run(&mut rt.stdin(), &mut rt.stdout(), &mut chunk, &mut line)
 }

@@ -17,8 +17,10 @@ mod requests;
 mod sealing;
 mod writing;
 
-fn main() {
+use std::io;
+
+fn main(rt: HostRuntime) -> io::Result<()> {
     let mut chunk = [0u8; 4096];
     let mut line = [0u8; 2048];
-    input::run(&mut chunk, &mut line);
+    input::run(&mut rt.stdin(), &mut rt.stdout(), &mut chunk, &mut line)
 }

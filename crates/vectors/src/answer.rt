@@ -2,6 +2,8 @@
 use answers::Refusal;
 use cipher::Fault;
 use lines::{Answer, first, hex};
+use std::io;
+use std::io::Write;
 
 pub(crate) fn bad() -> Answer {
     first(b"bad")
@@ -32,8 +34,8 @@ pub(crate) fn refused(fault: Fault) -> Answer {
 }
 
 // Writes an answer behind its line's number.
-pub(crate) fn say(number: u64, a: Answer) {
+pub(crate) fn say<W: Write>(output: &mut W, number: u64, a: Answer) -> io::Result<()> {
     let line = lines::whole_line(number, a);
     let octets = line.octets;
-    io::write_all(1, text::front(&octets, line.n));
+    output.write_all(text::front(&octets, line.n))
 }

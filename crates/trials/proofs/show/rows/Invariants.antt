@@ -1,0 +1,10 @@
+-- The rows are counted up to 1026.
+use Prim.Native.Nat.{◌≤◌, ◌-◌}
+use Rattle.std.proofs.Common.{rules}
+use Rattle.trials.proofs.show.rows.Given as goal
+
+abbrev pub invariant-loop-r : goal.invariant-loop-r
+invariant-loop-r l = l.r ≤ 1026
+
+abbrev pub decreases-loop-r : goal.decreases-loop-r
+decreases-loop-r l = 1026 - l.r
