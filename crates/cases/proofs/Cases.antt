@@ -11,7 +11,7 @@ use lib.Dec.{eqb, ltb}
 use lib.ListN.{length, get_or, set, length-set, replicate}
 use lib.Seq.{get_or-set_same, get_or-set_other}
 use borrow.Author.Tests.{eq-eqb, ne_eqb, lt-ltb, le-ltb, lt-leb, ltb-true, ltb-false, eqb-true}
-use Rattle.settings.specs.Settings.{Settings, ours, longest, top}
+use Rattle.settings.specs.Settings.{ours, longest, top}
 use Rattle.octets.proofs.Choices.{choose, both-parts}
 use Rattle.octets.specs.Addresses.{no_address}
 use Rattle.octets.specs.Keys.{Key}

@@ -13,26 +13,22 @@ use Rattle.settings.specs.Settings.{Settings, top}
 use Rattle.octets.proofs.Choices.{choose, both-parts}
 use Rattle.octets.specs.Addresses.{no_address}
 use Rattle.std.specs.Prelude.{if◌then◌else◌}
-use Rattle.octets.specs.Choice.{both}
 use Rattle.octets.specs.Lists.{Octets}
 use Rattle.history.specs.Calls.{Call, install, switch, add_link, remove_link, forget, opening, sealing, looking, writing, routing, next_mark, marked}
-use Rattle.history.specs.Calls.{tells, Reply, refuses, handed_out, Exchange, to_seal}
+use Rattle.history.specs.Calls.{tells, Reply, refuses, handed_out, to_seal}
 use Rattle.history.specs.Deeds.{Deed, called, wrote, cut, log, stored, SealsOctets, answered_last, writes_answered, tells_stored}
 use Rattle.history.specs.Events.{Holder, slot, link, Installation, key, Event, key_in, same_key, sent_in}
 use Rattle.history.specs.Story.{installing, hearing, telling, events_of, story}
 use Rattle.history.specs.Statement.{readings, lower, rising, First}
-use Rattle.history.specs.Running.{Held, Step, by_board, by_frame, step, start, run, replies}
-use Rattle.history.proofs.Searches.{clash}
+use Rattle.history.specs.Running.{Held, Step, by_board, by_frame, step, run, replies}
 use Rattle.history.proofs.Marks.{stored-log, Keeps, keeps-found, store_low, keeps-wrote, keeps_cut, keeps-step}
 use Rattle.history.proofs.Ways.{Made, network-seals, aps-seals, writes}
 use Rattle.aps.proofs.Ways as aps
 use Rattle.answers.specs.Numbers.{done, refused as declined}
 use Rattle.frames.specs.declared.Layer.{Layer}
 use Rattle.frames.specs.declared.Layer.TheVariants.{Network, Aps}
-use Rattle.frames.specs.declared.Secured.{Secured}
 use Rattle.frames.specs.Reading.{Reading, refused, plain, secured, reading}
 use Rattle.board.specs.declared.Board.{Board}
-use Rattle.board.specs.State.{fresh}
 use Rattle.board.specs.Sending.{spent, Framed}
 use Rattle.board.specs.Requests.{Changed, make}
 use Rattle.board.specs.Mark.{with_mark, move_mark}

@@ -17,21 +17,20 @@ use Rattle.settings.specs.Settings.{Settings, longest, top}
 use Rattle.std.specs.Prelude.{if◌then◌else◌}
 use Rattle.octets.specs.Choice.{both}
 use Rattle.octets.specs.Lists.{Octets}
-use Rattle.history.specs.Calls.{Call, install, opening, writing, routing, Reply, gave, refuses, Exchange}
+use Rattle.history.specs.Calls.{Call, install, opening, writing, routing, Reply, refuses, Exchange}
 use Rattle.history.specs.Deeds.{Deed, called, wrote, cut, Replies, log, stored, SealsOctets, writes_answered, tells_stored}
 use Rattle.history.specs.Events.{Holder, slot, link, nowhere, Installation, none, key, HeardFrame, Event, keyed, forgot, heard, sent, lost, same, key_in, slot_for, holder_for, without, heard_in, sent_in}
 use Rattle.history.specs.Story.{events_of, story}
 use Rattle.history.specs.Statement.{readings, lower, rising, First, longest_at, key_at, above_all, room, passes_under, passes_read, passes, Rightly, Second}
 use Rattle.history.specs.Running.{Held, by_network, by_frame, step, start, run, replies}
 use Rattle.history.proofs.Searches.{clash, not-twice}
-use Rattle.history.proofs.Second.{key-nowhere, plain-not}
+use Rattle.history.proofs.Second.{key-nowhere}
 use Rattle.network.proofs.Ways as network_ways
 use Rattle.aps.proofs.Ways as aps_ways
-use Rattle.answers.specs.Numbers.{ProtectionTold, under, opened, turned_down}
+use Rattle.answers.specs.Numbers.{ProtectionTold}
 use Rattle.frames.specs.declared.Layer.{Layer}
 use Rattle.frames.specs.declared.Layer.TheVariants.{Network, Aps}
 use Rattle.frames.specs.declared.Secured.{Secured}
-use Rattle.frames.specs.Security.{identifier_of}
 use Rattle.frames.specs.Reading.{Reading, refused, plain, secured, reading}
 use Rattle.board.specs.Places.{first_at}
 use Rattle.seals.specs.Sealing.{Fair, genuine, sent_octets, sealed_frame}

@@ -1,8 +1,8 @@
 -- The host's store beside the board's mark, where the host writes only the next mark last answered and tells only what its store holds:
 -- the store holds the board's mark or the next one, so that it is above every counter sealed, whenever the plug is pulled.
 -- Assumes nothing.
-use mathlib.Core.Path.{◌≡◌, refl, sym, ap, ◌∙◌}
-use mathlib.Core.Bool.{Bool, true, false}
+use mathlib.Core.Path.{◌≡◌, refl, sym, ◌∙◌}
+use mathlib.Core.Bool.{Bool, true}
 use mathlib.Core.List.{List, [], ◌∷◌}
 use Prim.Native.Nat.{ℕ, ◌≤◌}
 use native.Mathlib.Omega.{arith}
@@ -13,7 +13,7 @@ use Rattle.octets.proofs.Choices.{choose}
 use Rattle.history.specs.Calls.{Call, install, switch, add_link, remove_link, forget, opening, sealing, looking, writing, routing, next_mark, marked}
 use Rattle.history.specs.Calls.{tells, Reply, answered, gave, looked, sent_on, next_is, Exchange}
 use Rattle.history.specs.Deeds.{Deed, called, wrote, cut, Replies, log, stored, answers, answered_last}
-use Rattle.history.specs.Running.{Held, by_board, by_frame, step}
+use Rattle.history.specs.Running.{Held, by_board, step}
 use Rattle.history.proofs.Searches.{clash}
 use Rattle.history.proofs.Ways.{network-seals, aps-seals, writes}
 use Rattle.answers.specs.Numbers.{done}

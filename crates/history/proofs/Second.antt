@@ -18,7 +18,7 @@ use Rattle.octets.specs.Lists.{Octets}
 use Rattle.history.specs.Calls.{opening}
 use Rattle.history.specs.Calls.{refuses}
 use Rattle.history.specs.Deeds.{log}
-use Rattle.history.specs.Events.{Holder, slot, link, nowhere, Installation, none, key, HeardFrame, Event, keyed, forgot, heard, sent, lost, same, key_in, holder_at, heard_in, is_from, senders}
+use Rattle.history.specs.Events.{Holder, slot, link, nowhere, none, key, HeardFrame, Event, keyed, forgot, heard, sent, lost, same, key_in, holder_at, heard_in, is_from, senders}
 use Rattle.history.specs.Story.{story}
 use Rattle.history.specs.Statement.{above_all, room, passes_under, passes_read, passes, tells_key, Rightly, Second}
 use Rattle.history.specs.Running.{Held, by_network, by_frame, step, run, replies}

@@ -15,7 +15,6 @@ use Rattle.octets.specs.Addresses.{no_address}
 use Rattle.std.specs.Prelude.{if◌then◌else◌}
 use Rattle.octets.specs.Choice.{both}
 use Rattle.history.specs.Calls.{Call, install, switch, add_link, remove_link, forget, opening, sealing, looking, writing, routing, next_mark, marked, sent_on}
-use Rattle.history.specs.Calls.{handed_out}
 use Rattle.history.specs.Deeds.{Deed, called, wrote, cut, log, stored}
 use Rattle.history.specs.Events.{Event, lost, Installation, HeardFrame, slot, link, keyed, key, none, key_in, same_key, slot_for, without, heard_in}
 use Rattle.history.specs.Story.{installing, hearing, events_of, story}

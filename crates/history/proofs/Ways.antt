@@ -1,11 +1,10 @@
 -- The ways in which a call that seals or writes a frame ends, at either layer: a refusal that changes nothing, or a frame. Those
 -- of opening are in network/proofs/Ways and aps/proofs/Ways.
 -- Assumes nothing.
-use mathlib.Core.Path.{◌≡◌, refl, sym, ◌∙◌}
+use mathlib.Core.Path.{◌≡◌, refl}
 use mathlib.Core.Bool.{Bool, not}
 use mathlib.Core.List.{List}
-use Prim.Native.Nat.{ℕ, ◌+◌, ◌<◌}
-use native.Mathlib.Omega.{arith}
+use Prim.Native.Nat.{ℕ, ◌<◌}
 use lib.Dec.{ltb}
 use lib.ListN.{length}
 use Rattle.settings.specs.Settings.{Settings, longest_aps, top}

@@ -1,6 +1,6 @@
 -- The bench language: "B a decimal from 0 to 255, C a decimal from 0 to 4294967295, S a decimal from 0 to 65535; decimals
 -- have no leading zero." Assumes nothing.
-use Rattle.std.specs.Prelude.{Bool, not, List, [], ◌∷◌, ◌++◌, ℕ, zero, suc, ◌+◌, ◌/◌, ◌%◌, eqb, leb, ltb, length}
+use Rattle.std.specs.Prelude.{Bool, not, List, [], ◌∷◌, ◌++◌, ℕ, zero, suc, ◌/◌, ◌%◌, eqb, leb, ltb, length}
 use Rattle.io.specs.Digits.{hex_digit_ascii}
 use Rattle.std.specs.Prelude.{if◌then◌else◌}
 use Rattle.octets.specs.Choice.{both}

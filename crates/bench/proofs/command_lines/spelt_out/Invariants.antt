@@ -1,5 +1,4 @@
 use Prim.Native.Nat.{◌≤◌, ◌-◌}
-use Rattle.std.proofs.Common.{rules}
 use Rattle.bench.proofs.command_lines.spelt_out.Given as goal
 
 abbrev pub invariant-loop-i : goal.invariant-loop-i

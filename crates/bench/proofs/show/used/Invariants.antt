@@ -1,6 +1,5 @@
 -- The rows are counted up to the end, which is within the stored ones.
 use Prim.Native.Nat.{◌≤◌, ◌-◌}
-use Rattle.std.proofs.Common.{rules}
 use Rattle.bench.proofs.show.used.Given as goal
 
 abbrev pub invariant-loop-r : goal.invariant-loop-r

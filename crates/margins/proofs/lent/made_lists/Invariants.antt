@@ -1,6 +1,5 @@
 -- The rows are counted up to the last that is stored, from wherever slot 1 starts.
 use Prim.Native.Nat.{◌≤◌, ◌-◌}
-use Rattle.std.proofs.Common.{rules}
 use Rattle.margins.proofs.lent.made_lists.Given as goal
 
 abbrev pub invariant-loop-r : goal.invariant-loop-r

@@ -1,6 +1,5 @@
 -- The rows are counted up to the last that is stored.
 use Prim.Native.Nat.{◌≤◌, ◌-◌}
-use Rattle.std.proofs.Common.{rules}
 use Rattle.margins.proofs.opening.changed_rows.Given as goal
 
 abbrev pub invariant-loop-r : goal.invariant-loop-r

@@ -1,6 +1,5 @@
 -- The entries are counted up to 8.
 use Prim.Native.Nat.{◌≤◌, ◌-◌}
-use Rattle.std.proofs.Common.{rules}
 use Rattle.trials.proofs.show.links.Given as goal
 
 abbrev pub invariant-loop-i : goal.invariant-loop-i

@@ -1,6 +1,5 @@
 -- The rows are counted up to 1026.
 use Prim.Native.Nat.{◌≤◌, ◌-◌}
-use Rattle.std.proofs.Common.{rules}
 use Rattle.trials.proofs.show.rows.Given as goal
 
 abbrev pub invariant-loop-r : goal.invariant-loop-r
