@@ -1,7 +1,7 @@
 -- Document 01, "Opening and sealing" (RULES 7.3): opening an APS frame. "The sender's link entry is used." "One link entry has one
 -- floor for its three keys." "A refusal returns its number and nothing else; state, lists and output stay."
 -- Assumes nothing.
-use Rattle.std.specs.Prelude.{Bool, false, List, ℕ, ◌+◌, eqb, ltb, length}
+use Rattle.std.specs.Prelude.{Bool, false, List, ℕ, ◌+◌, length, ◌==◌, nat_lt}
 use Rattle.settings.specs.Settings.{Settings, longest, longest_aps, top}
 use Rattle.std.specs.Prelude.{if◌then◌else◌}
 use Rattle.octets.specs.Keys.{Key, the_key}
@@ -46,8 +46,8 @@ admitted b f s o i (valid m) =
 -- 7 and 8, under a key of entry i
 unfoldable pub opened_under : Settings → Board → List ℕ → Secured → List ℕ → ℕ → Framed
 opened_under z b f s o i =
-    if eqb s.counter top then framed (turned_down 7) b o
-    else (if ltb s.counter (link_at b.links i).floor then framed (turned_down 8) b o
+    if s.counter == top then framed (turned_down 7) b o
+    else (if nat_lt s.counter (link_at b.links i).floor then framed (turned_down 8) b o
     else admitted b f s o i (message_of z (key_named (link_at b.links i) s) f s))
 
 -- 6
@@ -64,8 +64,8 @@ opened_read z b f o (secured s) = opened_keyed z b f s o (link_of b.links s.send
 
 unfoldable pub open_aps : Settings → Board → List ℕ → ℕ → List ℕ → Framed
 open_aps z b f given o =
-    if ltb (length o) longest then framed (turned_down 1) b o
-    else (if ltb longest_aps (length f) then framed (turned_down 2) b o
+    if nat_lt (length o) longest then framed (turned_down 1) b o
+    else (if nat_lt longest_aps (length f) then framed (turned_down 2) b o
     else opened_read z b f o (reading z Aps f given))
 
 -- ---- the look: whether the tag of a frame that is not too long (2) fits the key that is found, whatever the counter
@@ -81,4 +81,4 @@ looked_read z ls f (secured s) = looked_keyed z ls f s (link_of ls s.sender)
 
 unfoldable pub look_aps : Settings → Board → List ℕ → ℕ → Bool
 look_aps z b f given =
-    if ltb longest_aps (length f) then false else looked_read z b.links f (reading z Aps f given)
+    if nat_lt longest_aps (length f) then false else looked_read z b.links f (reading z Aps f given)

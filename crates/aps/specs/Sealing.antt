@@ -2,7 +2,7 @@
 -- partner's entry and identifier 0, 2 or 3 named by the caller (else 14)." "Sealing always sends the sender, 13 octets." "Sealing: 1,
 -- 2, 3, 4, 3, 14, 6, 7", and document 02 (vi): 17, "judged after 7".
 -- Assumes nothing.
-use Rattle.std.specs.Prelude.{Bool, not, List, ℕ, eqb, leb, ltb, length}
+use Rattle.std.specs.Prelude.{Bool, not, List, ℕ, length, ◌==◌, nat_lt, nat_le}
 use Rattle.settings.specs.Settings.{Settings, longest, longest_aps_plain}
 use Rattle.std.specs.Prelude.{if◌then◌else◌}
 use Rattle.octets.specs.Choice.{both}
@@ -21,7 +21,7 @@ use Rattle.aps.specs.Keys.{key_for}
 
 -- an identifier that names a key of a link entry: 0, 2 or 3
 unfoldable pub named : ℕ → Bool
-named k = both (leb k 3) (not (eqb k 1))
+named k = both (nat_le k 3) (not (k == 1))
 
 -- 7, 17, and the frame under the key that identifier k names of a link key
 unfoldable pub sealed_under : Settings → Board → List ℕ → List ℕ → ℕ → ℕ → Key → Framed
@@ -41,6 +41,6 @@ sealed_read z b f a k o (headed h) =
 -- 1, 2
 unfoldable pub seal_aps : Settings → Board → List ℕ → ℕ → ℕ → List ℕ → Framed
 seal_aps z b f a k o =
-    if ltb (length o) longest then framed (turned_down 1) b o
-    else (if ltb (longest_aps_plain z) (length f) then framed (turned_down 2) b o
+    if nat_lt (length o) longest then framed (turned_down 1) b o
+    else (if nat_lt (longest_aps_plain z) (length f) then framed (turned_down 2) b o
     else sealed_read z b f a k o (reading_plain Aps f))

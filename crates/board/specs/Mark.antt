@@ -2,7 +2,7 @@
 -- requests with the host's write between them: the first answers the next mark and changes nothing; the second is told the mark that
 -- the store now holds (not the next one: 14), and only then is it moved for the board."
 -- Assumes nothing.
-use Rattle.std.specs.Prelude.{ℕ, ◌+◌, min, eqb}
+use Rattle.std.specs.Prelude.{ℕ, ◌+◌, min, ◌==◌}
 use Rattle.settings.specs.Settings.{mark_step, top}
 use Rattle.std.specs.Prelude.{if◌then◌else◌}
 use Rattle.answers.specs.Numbers.{done, refused}
@@ -27,4 +27,4 @@ with_mark b m =
 
 -- the second request, told that the store now holds m
 unfoldable pub move_mark : Board → ℕ → Changed
-move_mark b m = if eqb m (next_mark b.mark) then changed done (with_mark b m) else changed (refused 14) b
+move_mark b m = if m == next_mark b.mark then changed done (with_mark b m) else changed (refused 14) b

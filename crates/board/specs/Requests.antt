@@ -1,6 +1,6 @@
 -- Document 01, "Requests that change keys" (RULES 3). Each request is a judgement in the paper's order, and what it then leaves.
 -- Assumes nothing.
-use Rattle.std.specs.Prelude.{Bool, true, not, List, ℕ, ◌-◌, ◌*◌, eqb, ltb, set}
+use Rattle.std.specs.Prelude.{Bool, true, not, List, ℕ, ◌-◌, ◌*◌, set, ◌==◌, nat_lt}
 use Rattle.octets.specs.Addresses.{no_address}
 use Rattle.std.specs.Prelude.{if◌then◌else◌}
 use Rattle.octets.specs.Choice.{both}
@@ -64,7 +64,7 @@ rows_freed m w i = lists (freed w.addrs (i * m) m) (freed w.floors (i * m) m)
 unfoldable pub install : Board → Lists → ℕ → ℕ → Key → Left
 install b w i n k =
     if not (lists_fit w) then left (refused 1) b w
-    else (if ltb 1 i then left (refused 14) b w
+    else (if nat_lt 1 i then left (refused 14) b w
     else (if carries (slot_at b.slots (1 - i)) n then left (refused 14) b w
     else (if holds (slot_at b.slots i) n k then left done b w
     else left done (with_slot b i (installed n k)) (rows_freed (half w) w i))))
@@ -114,7 +114,7 @@ remove_at b (At i) = changed done (with_link b i no_link)
 remove_at b Absent = changed (refused 13) b
 
 unfoldable pub remove_link : Board → ℕ → Changed
-remove_link b a = if eqb a 0 then changed (refused 13) b else remove_at b (link_of b.links a)
+remove_link b a = if a == 0 then changed (refused 13) b else remove_at b (link_of b.links a)
 
 -- ---- senders
 
@@ -127,6 +127,6 @@ forget_at w Absent = freeing (refused 13) w
 unfoldable pub forget : Lists → ℕ → ℕ → Freed
 forget w i a =
     if not (lists_fit w) then freeing (refused 1) w
-    else (if ltb 1 i then freeing (refused 14) w
-    else (if eqb a 0 then freeing (refused 13) w
+    else (if nat_lt 1 i then freeing (refused 14) w
+    else (if a == 0 then freeing (refused 13) w
     else forget_at w (find_row w.addrs (i * half w) (half w) a)))

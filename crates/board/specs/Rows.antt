@@ -2,7 +2,7 @@
 -- "Address 0 is a free row"; and for its 64 rows document 02 (iii): "Let the two lists have any equal, even length from 2 to 1,024; the
 -- first half belongs to slot 0. Other or unequal lengths are 1. 01's 32 reads half the length".
 -- Assumes nothing.
-use Rattle.std.specs.Prelude.{Bool, List, ℕ, ◌-◌, ◌/◌, ◌%◌, min, eqb, leb, length, get_or, replicate}
+use Rattle.std.specs.Prelude.{Bool, List, ℕ, ◌-◌, ◌/◌, ◌%◌, min, length, get_or, replicate, ◌==◌, nat_le}
 use Rattle.std.proofs.Math.Seq.{paste}
 use Rattle.settings.specs.Settings.{shortest_list, longest_list}
 use Rattle.octets.specs.Choice.{both}
@@ -19,11 +19,11 @@ lists al fl = record { addrs = al; floors = fl }
 
 -- "any .. even length from 2 to 1,024"
 unfoldable pub legal : ℕ → Bool
-legal n = both (leb shortest_list n) (both (leb n longest_list) (eqb (n % 2) 0))
+legal n = both (nat_le shortest_list n) (both (nat_le n longest_list) ((n % 2) == 0))
 
 -- "equal": both lists have it
 unfoldable pub lists_fit : Lists → Bool
-lists_fit w = both (legal (length w.addrs)) (eqb (length w.floors) (length w.addrs))
+lists_fit w = both (legal (length w.addrs)) (length w.floors == length w.addrs)
 
 -- how many rows each slot has: "the first half belongs to slot 0", "01's 32 reads half the length"
 abbrev pub half : Lists → ℕ
@@ -31,7 +31,7 @@ half w = length w.addrs / 2
 
 -- the lowest of the n rows from i on, so far as the list has them, that has address a
 unfoldable pub find_row : List ℕ → ℕ → ℕ → ℕ → Place
-find_row al i n a = first_at (λ r. eqb (get_or al r 0) a) i (min n (length al - i))
+find_row al i n a = first_at (λ r. get_or al r 0 == a) i (min n (length al - i))
 
 -- n rows from i on, so far as the list has them, all zero
 unfoldable pub freed : List ℕ → ℕ → ℕ → List ℕ

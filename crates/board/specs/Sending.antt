@@ -2,7 +2,7 @@
 -- counter is "never lowered (ours)", and sealing is refused (7) with the board's own at 4,294,967,295; and document 02 (vi): "Sealing
 -- with the mark not yet moved is refused (17), judged after 7."
 -- Assumes nothing.
-use Rattle.std.specs.Prelude.{List, ℕ, ◌+◌, eqb, ltb, length}
+use Rattle.std.specs.Prelude.{List, ℕ, ◌+◌, length, ◌==◌, nat_lt}
 use Rattle.settings.specs.Settings.{top}
 use Rattle.std.specs.Prelude.{if◌then◌else◌}
 use Rattle.octets.specs.Lists.{onto}
@@ -24,7 +24,7 @@ with_outgoing b n =
 
 -- "raises the outgoing counter by 1"; "never lowered": at its top it stays
 abbrev pub raised : ℕ → ℕ
-raised c = if eqb c top then top else c + 1
+raised c = if c == top then top else c + 1
 
 -- the board that sealing leaves
 unfoldable pub spent : Board → Board
@@ -55,7 +55,7 @@ sending_of b = record { own = b.own; counter = b.outgoing; mark = b.mark }
 
 -- 7: "counter 4,294,967,295, heard or own"; then 17: "Before any frame is sealed, the mark must be above its counter"
 unfoldable pub may_send : Sending → Told
-may_send s = if eqb s.counter top then refused 7 else (if ltb s.counter s.mark then done else refused 17)
+may_send s = if s.counter == top then refused 7 else (if nat_lt s.counter s.mark then done else refused 17)
 
 -- "writes the secured frame" x "likewise", which is "at the start of the output", "answers the length, and raises the outgoing
 -- counter by 1"; or "state, lists and output stay"

@@ -3,7 +3,7 @@
 -- entries (present, partner, key, floor). Fresh: both counters 0, nothing present, the rest zero." And document 02 (vi): "Keep one saved
 -- number, the mark, in the host's store."
 -- Assumes nothing.
-use Rattle.std.specs.Prelude.{Bool, false, List, [], ℕ, eqb, get_or, set}
+use Rattle.std.specs.Prelude.{Bool, false, List, [], ℕ, get_or, set, ◌==◌}
 use Rattle.octets.specs.Choice.{both}
 use Rattle.octets.specs.Lists.{tab}
 use Rattle.board.specs.declared.Slot.{Slot}
@@ -21,11 +21,11 @@ link_at ls i = get_or ls i (record { present = false; partner = 0; key = []; flo
 
 -- a present slot with that sequence number
 unfoldable pub carries : Slot → ℕ → Bool
-carries s n = both s.present (eqb s.seq n)
+carries s n = both s.present (s.seq == n)
 
 -- a present entry for that partner
 unfoldable pub pairs : Link → ℕ → Bool
-pairs l a = both l.present (eqb l.partner a)
+pairs l a = both l.present (l.partner == a)
 
 -- ---- making
 

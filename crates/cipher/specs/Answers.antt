@@ -1,6 +1,6 @@
 -- What the callable routines answer, in document 01's numbers (RULES 10.2 to 10.4), and what they leave.
 -- Assumes nothing.
-use Rattle.std.specs.Prelude.{Bool, true, List, ℕ, ◌+◌, ◌-◌, ◌%◌, eqb, leb, length}
+use Rattle.std.specs.Prelude.{Bool, true, List, ℕ, ◌+◌, ◌-◌, ◌%◌, length, ◌==◌, nat_le}
 use Rattle.std.specs.Prelude.{if◌then◌else◌}
 use Rattle.octets.specs.Choice.{both}
 use Rattle.octets.specs.Lists.{onto}
@@ -40,7 +40,7 @@ product t o = record { answer = t; octets = o }
 
 -- Annex A, prerequisite 4: "valid values for M are the integers 0, 4, 6, 8, 10, 12, 14, and 16"
 unfoldable pub tag_length : ℕ → Bool
-tag_length M = if eqb M 0 then true else both (leb 4 M) (both (leb M 16) (eqb (M % 2) 0))
+tag_length M = if M == 0 then true else both (nat_le 4 M) (both (nat_le M 16) ((M % 2) == 0))
 
 -- the most octets, authenticated or payload, that are taken: above every frame's, which has no more than 116
 abbrev pub most : ℕ
@@ -50,8 +50,8 @@ most = 128
 unfoldable pub sealing : ℕ → List ℕ → List ℕ → List ℕ → List ℕ → List ℕ → Product
 sealing M k n a m o =
     if tag_length M then
-    if both (leb (length a) most) (leb (length m) most) then
-    if leb (length m + M) (length o)
+    if both (nat_le (length a) most) (nat_le (length m) most) then
+    if nat_le (length m + M) (length o)
     then product (made (length m + M)) (onto (ccm_seal (aes128 k) M n a m) o)
     else product (refused 1) o
     else product (refused 2) o
@@ -65,9 +65,9 @@ opened_onto invalid o = product (refused 9) o
 unfoldable pub opening : ℕ → List ℕ → List ℕ → List ℕ → List ℕ → List ℕ → Product
 opening M k n a c o =
     if tag_length M then
-    if both (leb (length a) most) (leb (length c) (most + M)) then
-    if leb M (length c) then
-    if leb (length c - M) (length o)
+    if both (nat_le (length a) most) (nat_le (length c) (most + M)) then
+    if nat_le M (length c) then
+    if nat_le (length c - M) (length o)
     then opened_onto (ccm_open (aes128 k) M n a c) o
     else product (refused 1) o
     else product (refused 3) o
@@ -76,7 +76,7 @@ opening M k n a c o =
 
 -- 01, "Hash": input up to 256 octets, keyed hash 240, else 2; a refusal's octets are zero
 unfoldable pub hashing : List ℕ → Product
-hashing d = if leb (length d) 256 then product (made 16) (hash_of d) else product (refused 2) zero_block
+hashing d = if nat_le (length d) 256 then product (made 16) (hash_of d) else product (refused 2) zero_block
 
 unfoldable pub keyed_hashing : List ℕ → List ℕ → Product
-keyed_hashing k d = if leb (length d) 240 then product (made 16) (keyed_hash k d) else product (refused 2) zero_block
+keyed_hashing k d = if nat_le (length d) 240 then product (made 16) (keyed_hash k d) else product (refused 2) zero_block

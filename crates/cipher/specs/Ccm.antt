@@ -1,7 +1,7 @@
 -- Annex A of source document 002: CCM*, over a block-cipher encryption function E with its key, with L = 2.
 -- n is the nonce N of 15 - L = 13 octets, a the authenticated octets, m the message, M the length of the tag.
 -- Assumes nothing.
-use Rattle.std.specs.Prelude.{Bool, List, [], ◌∷◌, ◌++◌, ℕ, ◌+◌, ◌-◌, ◌*◌, ◌/◌, ◌%◌, min, ltb, length, take, drop}
+use Rattle.std.specs.Prelude.{Bool, List, [], ◌∷◌, ◌++◌, ℕ, ◌+◌, ◌-◌, ◌*◌, ◌/◌, ◌%◌, min, length, take, drop, nat_lt}
 use Rattle.std.specs.Int.Bits.{bit_xor}
 use Rattle.std.specs.Prelude.{if◌then◌else◌}
 use Rattle.octets.specs.Lists.{at, tab, eq_list}
@@ -81,5 +81,5 @@ fits E M n a c = eq_list (masked E M n (seal_of M c)) (tag_of E M n a (streamed 
 -- A.3.1, 1: "Parse the message c as C || U .. If this operation fails, output 'invalid' and stop."
 unfoldable pub ccm_open : (List ℕ → List ℕ) → ℕ → List ℕ → List ℕ → List ℕ → Verdict
 ccm_open E M n a c =
-    if ltb (length c) M then invalid
+    if nat_lt (length c) M then invalid
     else (if fits E M n a c then valid (streamed E n (body_of M c)) else invalid)

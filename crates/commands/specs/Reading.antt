@@ -3,7 +3,7 @@
 -- identifier), then 12. Status, flag and other type fields are handed on unjudged. Each command is an answer of its own kind
 -- with its fields." The places of the fields are those of source document 000, 4.4.11, behind a header of 2 octets.
 -- Assumes nothing.
-use Rattle.std.specs.Prelude.{ℕ, ◌+◌, not, ltb, List, [], ◌∷◌, length, drop, nat_lt}
+use Rattle.std.specs.Prelude.{ℕ, ◌+◌, not, List, [], ◌∷◌, length, drop, nat_lt}
 use Rattle.std.specs.Prelude.{if◌then◌else◌}
 use Rattle.octets.specs.Lists.{at}
 use Rattle.octets.specs.Least.{number_at}
@@ -50,7 +50,7 @@ judge_header z f p (headed h) = judge_listed z f p (listed (at f 2) (at f 3))
 unfoldable pub judge : Settings → List ℕ → ProtectionTold → Judgement
 judge z f p =
     if not (known p) then refused 14
-    else (if ltb longest_aps (length f) then refused 2
+    else (if nat_lt longest_aps (length f) then refused 2
     else judge_header z f p (reading_command f))
 
 -- ---- the fields

@@ -2,7 +2,7 @@
 -- acknowledgement. It judges 1, 11, 2, writes and answers the length as sealing does, stamps the APS counter and then raises
 -- it; after 255 comes 0. Nothing else moves it." The layouts are those of source document 000, 4.4.11.
 -- Assumes nothing.
-use Rattle.std.specs.Prelude.{ℕ, ◌+◌, ◌%◌, Bool, true, false, not, ltb, List, [], ◌∷◌, ◌++◌, length, ◌==◌, nat_lt}
+use Rattle.std.specs.Prelude.{ℕ, ◌+◌, ◌%◌, Bool, true, false, not, List, [], ◌∷◌, ◌++◌, length, ◌==◌, nat_lt}
 use Rattle.std.specs.Prelude.{if◌then◌else◌}
 use Rattle.octets.specs.Choice.{both}
 use Rattle.octets.specs.Lists.{onto}
@@ -95,5 +95,5 @@ unfoldable pub write_command : Settings → Board → Bool → Command → List 
 write_command z b ack c k r o =
     if nat_lt (length o) longest_aps then framed (turned_down 1) b o
     else (if not (whole z (rule_of (kind_of c)) k r) then framed (turned_down 11) b o
-    else (if ltb longest_aps (length (frame_of b ack c k r)) then framed (turned_down 2) b o
+    else (if nat_lt longest_aps (length (frame_of b ack c k r)) then framed (turned_down 2) b o
     else framed (written (length (frame_of b ack c k r))) (aps_raised b) (onto (frame_of b ack c k r) o)))

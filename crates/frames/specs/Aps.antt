@@ -3,7 +3,7 @@
 -- control and counter (delivery 0 or 2). Ack header: delivery 0; 2 octets with bit 4 set, else 8. Bit 4 on other types,
 -- bit 7, type 3 and every other delivery are form 4."
 -- Assumes nothing.
-use Rattle.std.specs.Prelude.{Bool, not, ℕ, ◌/◌, ◌%◌, eqb, ltb}
+use Rattle.std.specs.Prelude.{Bool, not, ℕ, ◌/◌, ◌%◌, ◌==◌, nat_lt}
 use Rattle.std.specs.Prelude.{if◌then◌else◌}
 use Rattle.octets.specs.Choice.{both}
 
@@ -21,20 +21,20 @@ ack_request c = c / 64 % 2
 
 unfoldable pub aps_form : ℕ → Bool
 aps_form c =
-    both (ltb c 128)
-    (if eqb (aps_type c) 0 then both (eqb (ack_format c) 0) (not (eqb (delivery c) 1))
-    else (if eqb (aps_type c) 1 then both (eqb (ack_format c) 0) (eqb (delivery c % 2) 0)
-    else both (eqb (aps_type c) 2) (eqb (delivery c) 0)))
+    both (nat_lt c 128)
+    (if aps_type c == 0 then both (ack_format c == 0) (not (delivery c == 1))
+    else (if aps_type c == 1 then both (ack_format c == 0) ((delivery c % 2) == 0)
+    else both (aps_type c == 2) (delivery c == 0)))
 
 unfoldable pub aps_secured : ℕ → Bool
-aps_secured c = eqb (c / 32 % 2) 1
+aps_secured c = (c / 32 % 2) == 1
 
 unfoldable pub aps_header : ℕ → ℕ
 aps_header c =
-    if eqb (aps_type c) 0 then (if eqb (delivery c) 3 then 9 else 8)
-    else (if eqb (aps_type c) 1 then 2
-    else (if eqb (ack_format c) 1 then 2 else 8))
+    if aps_type c == 0 then (if delivery c == 3 then 9 else 8)
+    else (if aps_type c == 1 then 2
+    else (if ack_format c == 1 then 2 else 8))
 
 -- "APS: identifier 0, 2 or 3; identifier 1 refused (ours)", with extended nonce or without
 unfoldable pub aps_keyed : ℕ → Bool
-aps_keyed k = not (eqb k 1)
+aps_keyed k = not (k == 1)

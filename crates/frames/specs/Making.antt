@@ -1,7 +1,7 @@
 -- Document 01, "Opening and sealing" (RULES 6.8): "the plain frame (security bit cleared, auxiliary header and tag gone)", and the
 -- secured frame.
 -- Assumes nothing.
-use Rattle.std.specs.Prelude.{List, ℕ, ◌+◌, ◌-◌, ◌*◌, ◌/◌, ◌%◌, leb, length, take, set}
+use Rattle.std.specs.Prelude.{List, ℕ, ◌+◌, ◌-◌, ◌*◌, ◌/◌, ◌%◌, length, take, set, nat_le}
 use Rattle.std.specs.Prelude.{if◌then◌else◌}
 use Rattle.octets.specs.Choice.{both}
 use Rattle.octets.specs.Lists.{at, onto}
@@ -34,4 +34,4 @@ secured_header l f h = set (take h f) (bit_place l) (marked (bit_value l) (at f 
 
 -- a header x of n octets of f, laid at the start of an output o; o stays where f or o has fewer
 unfoldable pub laid : List ℕ → List ℕ → ℕ → List ℕ → List ℕ
-laid o f n x = if both (leb n (length f)) (leb n (length o)) then onto x o else o
+laid o f n x = if both (nat_le n (length f)) (nat_le n (length o)) then onto x o else o

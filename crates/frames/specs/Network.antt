@@ -4,7 +4,7 @@
 -- 9 security, 10 source route, 11 and 12 the long addresses, 13 end device, 14-15 zero. Any other type, version,
 -- discovery value, a multicast bit or a bit 14-15 set is form 4." The version is 2.
 -- Assumes nothing.
-use Rattle.std.specs.Prelude.{Bool, List, ℕ, ◌+◌, ◌*◌, ◌/◌, ◌%◌, eqb, leb, ltb}
+use Rattle.std.specs.Prelude.{Bool, List, ℕ, ◌+◌, ◌*◌, ◌/◌, ◌%◌, ◌==◌, nat_lt, nat_le}
 use Rattle.std.specs.Prelude.{if◌then◌else◌}
 use Rattle.octets.specs.Choice.{both}
 use Rattle.octets.specs.Least.{number_at}
@@ -15,14 +15,14 @@ network_control f = number_at 2 f 0
 
 unfoldable pub network_form : ℕ → Bool
 network_form c =
-    both (leb (c % 4) 1)
-    (both (eqb (c / 4 % 16) 2)
-    (both (leb (c / 64 % 4) 1)
-    (both (eqb (c / 256 % 2) 0)
-    (ltb c 16384))))
+    both (nat_le (c % 4) 1)
+    (both ((c / 4 % 16) == 2)
+    (both (nat_le (c / 64 % 4) 1)
+    (both ((c / 256 % 2) == 0)
+    (nat_lt c 16384))))
 
 unfoldable pub network_secured : ℕ → Bool
-network_secured c = eqb (c / 512 % 2) 1
+network_secured c = (c / 512 % 2) == 1
 
 -- where the source route starts, if there is one
 unfoldable pub network_base : ℕ → ℕ
@@ -30,10 +30,10 @@ network_base c = 8 + 8 * (c / 2048 % 2) + 8 * (c / 4096 % 2)
 
 unfoldable pub network_header : List ℕ → ℕ → ℕ
 network_header f c =
-    if eqb (c / 1024 % 2) 1
+    if (c / 1024 % 2) == 1
     then network_base c + 2 + 2 * at f (network_base c)
     else network_base c
 
 -- "Network: identifier 1 and extended nonce"
 unfoldable pub network_keyed : ℕ → ℕ → Bool
-network_keyed k e = both (eqb k 1) (eqb e 1)
+network_keyed k e = both (k == 1) (e == 1)

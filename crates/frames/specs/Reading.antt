@@ -2,7 +2,7 @@
 -- for the control field, 4, 3 up to the security control, 5 for it, 3 for the rest and the tag, 5 for the sender"; "Sealing: .. 3,
 -- 4, 3", where 4 is also "security bit already set". Each is read in the same way at both layers.
 -- Assumes nothing.
-use Rattle.std.specs.Prelude.{Bool, true, false, not, List, ℕ, ◌+◌, eqb, leb, ltb, length}
+use Rattle.std.specs.Prelude.{Bool, true, false, not, List, ℕ, ◌+◌, length, ◌==◌, nat_lt, nat_le}
 use Rattle.settings.specs.Settings.{Settings}
 use Rattle.octets.specs.Addresses.{no_address}
 use Rattle.std.specs.Prelude.{if◌then◌else◌}
@@ -30,7 +30,7 @@ pub data Header : Type 0 where
 -- "3 for the control field, 4"
 unfoldable pub read_header : Layer → List ℕ → Header
 read_header l f =
-    if ltb (length f) (control_octets l) then unfit 3
+    if nat_lt (length f) (control_octets l) then unfit 3
     else (if not (form_of l (control_of l f)) then unfit 4
     else header (header_of l f (control_of l f)) (secured_bit l (control_of l f)))
 
@@ -63,14 +63,14 @@ announced f h given =
 -- sender"
 unfoldable pub read_secured : Settings → Layer → List ℕ → ℕ → ℕ → Reading
 read_secured z l f h given =
-    if leb (length f) h then refused 3
+    if nat_le (length f) h then refused 3
     else (if not (suits l (at f h)) then refused 5
-    else (if ltb (length f) (h + aux_length (at f h) + z.tag) then refused 3
+    else (if nat_lt (length f) (h + aux_length (at f h) + z.tag) then refused 3
     else (if no_address (sender_of f h given) then refused 5
     else secured (announced f h given))))
 
 unfoldable pub read_plain : List ℕ → ℕ → Reading
-read_plain f h = if ltb (length f) h then refused 3 else plain h
+read_plain f h = if nat_lt (length f) h then refused 3 else plain h
 
 abbrev pub read_behind : Settings → Layer → List ℕ → ℕ → Header → Reading
 read_behind z l f given (unfit n) = refused n
@@ -94,7 +94,7 @@ told_plain (plains.Header h) = headed h
 abbrev pub plain_behind : List ℕ → Header → PlainReading
 plain_behind f (unfit n) = unread n
 plain_behind f (header h true) = unread 4
-plain_behind f (header h false) = if ltb (length f) h then unread 3 else headed h
+plain_behind f (header h false) = if nat_lt (length f) h then unread 3 else headed h
 
 unfoldable pub reading_plain : Layer → List ℕ → PlainReading
 reading_plain l f = plain_behind f (read_header l f)
@@ -103,8 +103,8 @@ reading_plain l f = plain_behind f (read_header l f)
 abbrev pub command_behind : List ℕ → Header → PlainReading
 command_behind f (unfit n) = unread n
 command_behind f (header h s) =
-    if ltb (length f) h then unread 3
-    else (if both (eqb (aps_type (at f 0)) 1) (not s) then headed h else unread 4)
+    if nat_lt (length f) h then unread 3
+    else (if both ((aps_type (at f 0)) == 1) (not s) then headed h else unread 4)
 
 unfoldable pub reading_command : List ℕ → PlainReading
 reading_command f = command_behind f (read_header Aps f)

@@ -3,7 +3,7 @@
 -- extended nonce. On the wire the level is sent as 0 and read as anything; in the nonce and in the authenticated octets
 -- it is replaced by 5, other bits as received."
 -- Assumes nothing.
-use Rattle.std.specs.Prelude.{List, [], ◌∷◌, ◌++◌, ℕ, ◌+◌, ◌*◌, ◌/◌, ◌%◌, eqb, take, set}
+use Rattle.std.specs.Prelude.{List, [], ◌∷◌, ◌++◌, ℕ, ◌+◌, ◌*◌, ◌/◌, ◌%◌, take, set, ◌==◌}
 use Rattle.std.specs.Prelude.{if◌then◌else◌}
 use Rattle.octets.specs.Least.{number_at, spelled}
 use Rattle.octets.specs.Lists.{at}
@@ -27,7 +27,7 @@ wire_control k = k * 8 + 32
 
 -- 1 if the key identifier is 1: that key's sequence number is sent
 unfoldable pub numbered : ℕ → ℕ
-numbered c = if eqb (identifier_of c) 1 then 1 else 0
+numbered c = if identifier_of c == 1 then 1 else 0
 
 -- ---- the auxiliary header that starts at place h of a frame f
 
@@ -39,10 +39,10 @@ counter_of f h = number_at 4 f (h + 1)
 
 -- the sender that the frame carries, or the one that the caller gives
 unfoldable pub sender_of : List ℕ → ℕ → ℕ → ℕ
-sender_of f h given = if eqb (extended_of (at f h)) 1 then number_at 8 f (h + 5) else given
+sender_of f h given = if (extended_of (at f h)) == 1 then number_at 8 f (h + 5) else given
 
 unfoldable pub sequence_of : List ℕ → ℕ → ℕ
-sequence_of f h = if eqb (identifier_of (at f h)) 1 then at f (h + 5 + 8 * extended_of (at f h)) else 0
+sequence_of f h = if (identifier_of (at f h)) == 1 then at f (h + 5 + 8 * extended_of (at f h)) else 0
 
 -- ---- what goes into CCM*
 
@@ -59,4 +59,4 @@ authenticated z f h n = set (take n f) h (with_level z (at f h))
 -- key sequence number (1 if the key identifier is 1)"
 unfoldable pub auxiliary : ℕ → ℕ → ℕ → ℕ → List ℕ
 auxiliary k counter sender seq =
-    wire_control k ∷ (spelled 4 counter ++ (spelled 8 sender ++ (if eqb k 1 then seq ∷ [] else [])))
+    wire_control k ∷ (spelled 4 counter ++ (spelled 8 sender ++ (if k == 1 then seq ∷ [] else [])))

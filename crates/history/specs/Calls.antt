@@ -1,7 +1,7 @@
 -- Demand 3 is said "over any sequence of calls" (RULES 11.1): the requests of document 01, routing, of 02 (i), and the two of a step, of
 -- 02 (vi), with their arguments, and what each answers.
 -- Assumes nothing.
-use Rattle.std.specs.Prelude.{Bool, true, false, List, [], ℕ, eqb, take}
+use Rattle.std.specs.Prelude.{Bool, true, false, List, [], ℕ, take, ◌==◌}
 use Rattle.octets.specs.Keys.{Key}
 use Rattle.answers.specs.Numbers.{Told, done, refused, FrameTold, opened, sealed, written, turned_down, ProtectionTold}
 use Rattle.frames.specs.declared.Layer.{Layer}
@@ -103,4 +103,4 @@ tells (looking l f g) m = true
 tells (writing a c k r o) m = true
 tells (routing f p) m = true
 tells next_mark m = true
-tells (marked n) m = eqb n m
+tells (marked n) m = n == m

@@ -2,7 +2,7 @@
 -- host writes a mark into its store, the plug is pulled; "The store writes one mark whole or not at all", so that a write is there or it
 -- isn't, and the plug may be pulled before or after it. Then what is supposed of the host. Nothing here looks at a board.
 -- Assumes nothing.
-use Rattle.std.specs.Prelude.{Bool, true, false, List, [], ◌∷◌, ℕ, eqb}
+use Rattle.std.specs.Prelude.{Bool, true, false, List, [], ◌∷◌, ℕ, ◌==◌}
 use Rattle.octets.specs.Choice.{both}
 use Rattle.octets.specs.Lists.{Octets}
 use Rattle.history.specs.Calls.{Call, to_seal, tells, Reply, answered, gave, looked, sent_on, next_is, Exchange}
@@ -51,7 +51,7 @@ answers (answered t) m before = before
 answers (gave t o) m before = before
 answers (looked t) m before = before
 answers (sent_on t s) m before = before
-answers (next_is n) m before = eqb n m
+answers (next_is n) m before = n == m
 
 abbrev pub answered_last : List (Deed Exchange) → ℕ → Bool
 answered_last [] m = false

@@ -4,7 +4,7 @@
 -- opened under it since when, and which were sealed. A cut empties the first two and not the third: document 02 (vi), "Demand 3's first
 -- statement must now hold over any number of cuts. Its second starts afresh at a cut." Nothing here looks at a board or at the lent lists.
 -- Assumes nothing.
-use Rattle.std.specs.Prelude.{Bool, true, false, List, [], ◌∷◌, ℕ, suc, eqb}
+use Rattle.std.specs.Prelude.{Bool, true, false, List, [], ◌∷◌, ℕ, suc, ◌==◌}
 use Rattle.std.specs.Prelude.{if◌then◌else◌}
 use Rattle.octets.specs.Choice.{both}
 use Rattle.octets.specs.Keys.{Key}
@@ -52,11 +52,11 @@ pub data Event : Type 0 where
   lost : Event
 
 abbrev pub same : Holder → Holder → Bool
-same (slot i) (slot j) = eqb i j
+same (slot i) (slot j) = i == j
 same (slot i) (link b) = false
 same (slot i) nowhere = false
 same (link a) (slot j) = false
-same (link a) (link b) = eqb a b
+same (link a) (link b) = a == b
 same (link a) nowhere = false
 same nowhere y = false
 
@@ -72,13 +72,13 @@ key_in (lost ∷ h) x = none
 
 abbrev pub numbered : Installation → ℕ → Bool
 numbered none n = false
-numbered (key q k) n = eqb q n
+numbered (key q k) n = q == n
 
 -- the same number and octets
 abbrev pub same_key : Installation → Installation → Bool
 same_key none y = false
 same_key (key q j) none = false
-same_key (key q j) (key n k) = both (eqb q n) (eq_list j.octets k.octets)
+same_key (key q j) (key n k) = both (q == n) (eq_list j.octets k.octets)
 
 abbrev pub holder_at : Place → Holder
 holder_at (At i) = slot i
@@ -98,7 +98,7 @@ holder_for h Aps s = link s.sender
 -- all but those from sender a
 abbrev pub without : ℕ → List HeardFrame → List HeardFrame
 without a [] = []
-without a (r ∷ l) = if eqb r.sender a then without a l else r ∷ without a l
+without a (r ∷ l) = if r.sender == a then without a l else r ∷ without a l
 
 -- under the key that x has, each since that key was installed and since its sender was last forgotten there
 abbrev pub heard_in : List Event → Holder → List HeardFrame
@@ -112,7 +112,7 @@ heard_in (lost ∷ h) x = []
 -- whether one of them was sender a's, and how many senders they have
 abbrev pub is_from : ℕ → List HeardFrame → Bool
 is_from a [] = false
-is_from a (r ∷ l) = if eqb r.sender a then true else is_from a l
+is_from a (r ∷ l) = if r.sender == a then true else is_from a l
 
 abbrev pub senders : List HeardFrame → ℕ
 senders [] = 0

@@ -2,7 +2,7 @@
 -- secured frame is opened exactly when 01's checks of lengths, form, key, tag and room pass and its counter is below 4,294,967,295 and
 -- above every counter opened before from that sender under that key since the key was installed or the sender forgotten."
 -- Assumes nothing.
-use Rattle.std.specs.Prelude.{◌≡◌, Bool, true, false, not, List, [], ◌∷◌, ℕ, eqb, ltb, leb, length}
+use Rattle.std.specs.Prelude.{◌≡◌, Bool, true, false, not, List, [], ◌∷◌, ℕ, length, ◌==◌, nat_lt, nat_le}
 use Rattle.settings.specs.Settings.{Settings, longest, longest_aps, top}
 use Rattle.std.specs.Prelude.{if◌then◌else◌}
 use Rattle.octets.specs.Choice.{both}
@@ -32,7 +32,7 @@ readings z (s ∷ ss) = reading z s.layer s.octets 0 ∷ readings z ss
 -- the frame before, if there is one, is secured and carries a counter below n
 abbrev pub lower : List Reading → ℕ → Bool
 lower [] n = true
-lower (secured s ∷ rs) n = ltb s.counter n
+lower (secured s ∷ rs) n = nat_lt s.counter n
 lower (plain k ∷ rs) n = false
 lower (refused k ∷ rs) n = false
 
@@ -63,12 +63,12 @@ key_at Aps s k = key_for k (identifier_of s.control)
 -- "above every counter opened before from that sender"
 abbrev pub above_all : ℕ → ℕ → List HeardFrame → Bool
 above_all a n [] = true
-above_all a n (r ∷ l) = both (if eqb r.sender a then ltb r.counter n else true) (above_all a n l)
+above_all a n (r ∷ l) = both (if r.sender == a then nat_lt r.counter n else true) (above_all a n l)
 
 -- "There is room if the sender was opened under that installation and not forgotten since, or if fewer than 32 senders were."
 -- A link entry has one sender, its partner.
 abbrev pub room : ℕ → List Event → Holder → ℕ → Bool
-room m h (slot i) a = if is_from a (heard_in h (slot i)) then true else ltb (senders (heard_in h (slot i))) m
+room m h (slot i) a = if is_from a (heard_in h (slot i)) then true else nat_lt (senders (heard_in h (slot i))) m
 room m h (link p) a = true
 room m h nowhere a = false
 
@@ -76,7 +76,7 @@ room m h nowhere a = false
 unfoldable pub passes_under : Settings → ℕ → List Event → Layer → List ℕ → Secured → Holder → Installation → Bool
 passes_under z m h l f s x none = false
 passes_under z m h l f s x (key n k) =
-    both (ltb s.counter top)
+    both (nat_lt s.counter top)
     (both (above_all s.sender s.counter (heard_in h x))
     (both (genuine z (key_at l s k) f s) (room m h x s.sender)))
 
@@ -88,7 +88,7 @@ passes_read z m h l f (refused n) = false
 
 -- lengths: "output under 116 octets"
 unfoldable pub passes : Settings → ℕ → List Event → Layer → List ℕ → ℕ → List ℕ → Bool
-passes z m h l f g o = both (leb longest (length o)) (both (leb (length f) (longest_at l)) (passes_read z m h l f (reading z l f g)))
+passes z m h l f g o = both (nat_le longest (length o)) (both (nat_le (length f) (longest_at l)) (passes_read z m h l f (reading z l f g)))
 
 -- a reply that tells a key's identifier
 abbrev pub tells_key : Reply → Bool

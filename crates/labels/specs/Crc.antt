@@ -1,7 +1,7 @@
 -- Document 02 (v) (RULES 14.1): "a CRC of two octets, as the Base Device Behavior specification defines it". That is CRC-16/X-25:
 -- the polynomial 0x1021 with its bits in the other order, start 0xFFFF, inverted at the end. Here it is worked out bit by bit.
 -- Assumes nothing.
-use Rattle.std.specs.Prelude.{List, [], ◌∷◌, ℕ, zero, suc, ◌/◌, ◌%◌, eqb}
+use Rattle.std.specs.Prelude.{List, [], ◌∷◌, ℕ, zero, suc, ◌/◌, ◌%◌, ◌==◌}
 use Rattle.std.specs.Int.Bits.{bit_xor}
 use Rattle.std.specs.Prelude.{if◌then◌else◌}
 
@@ -15,7 +15,7 @@ ones = 0xffff
 
 -- the register one bit down; where the bit that fell out was 1, the polynomial is added
 unfoldable pub shifted : ℕ → ℕ
-shifted c = if eqb (c % 2) 1 then bit_xor (c / 2) polynomial else c / 2
+shifted c = if (c % 2) == 1 then bit_xor (c / 2) polynomial else c / 2
 
 -- k bits down
 unfoldable pub shifted_by : ℕ → ℕ → ℕ

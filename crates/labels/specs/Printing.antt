@@ -1,7 +1,7 @@
 -- Document 02 (v) (RULES 14.4): "a writer that prints the label, in capitals with one space between octets (a code of another length:
 -- 15; then output too short: 1)".
 -- Assumes nothing.
-use Rattle.std.specs.Prelude.{List, ℕ, leb, length}
+use Rattle.std.specs.Prelude.{List, ℕ, length, nat_le}
 use Rattle.std.specs.Prelude.{if◌then◌else◌}
 use Rattle.octets.specs.Lists.{onto}
 use Rattle.labels.specs.Codes.{code_length, with_crc}
@@ -27,7 +27,7 @@ printing t o = record { told = t; out = o }
 unfoldable pub print_label : List ℕ → List ℕ → Printing
 print_label c o =
     if code_length (length c) then
-    if leb (length (label_text c)) (length o)
+    if nat_le (length (label_text c)) (length o)
     then printing (printed (length (label_text c))) (onto (label_text c) o)
     else printing (refused 1) o
     else printing (refused 15) o

@@ -1,7 +1,7 @@
 -- Document 02 (v) (RULES 14.3): "a reader of the printed hex (small or capital, at most one space or hyphen between octets), the CRC
 -- check, and the link key .. Wrong digits or length: 15. CRC wrong: 16. Digits come first."
 -- Assumes nothing.
-use Rattle.std.specs.Prelude.{Bool, true, false, List, [], ◌∷◌, ℕ, ◌-◌, eqb, ltb, length, take}
+use Rattle.std.specs.Prelude.{Bool, true, false, List, [], ◌∷◌, ℕ, ◌-◌, length, take, ◌==◌, nat_lt}
 use Rattle.std.specs.Prelude.{if◌then◌else◌}
 use Rattle.octets.specs.Choice.{both}
 use Rattle.octets.specs.Lists.{at, tab, eq_list}
@@ -14,11 +14,11 @@ use Rattle.labels.specs.Answers.{Reading, reading, coded, no_code}
 
 -- a space or a hyphen
 unfoldable pub separator : ℕ → Bool
-separator c = if eqb c 0x20 then true else eqb c 0x2d
+separator c = if c == 0x20 then true else c == 0x2d
 
 -- a hex digit, small or capital
 unfoldable pub hex_digit : ℕ → Bool
-hex_digit c = ltb (digit_of c) 16
+hex_digit c = nat_lt (digit_of c) 16
 
 -- Octets, one at least, each of two digits. Behind an octet stands the end, or one separator and further octets, or these at once.
 unfoldable pub spells : List ℕ → Bool

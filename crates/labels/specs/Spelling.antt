@@ -1,7 +1,7 @@
 -- Document 02 (v) (RULES 14.3, 14.4): "printed hex (small or capital, at most one space or hyphen between octets)". Every way to
 -- print octets so: each gap and the case of each digit is chosen by itself.
 -- Assumes nothing.
-use Rattle.std.specs.Prelude.{List, [], ◌∷◌, ◌++◌, ℕ, suc, ◌+◌, ◌-◌, ◌/◌, ◌%◌, ltb}
+use Rattle.std.specs.Prelude.{List, [], ◌∷◌, ◌++◌, ℕ, suc, ◌+◌, ◌-◌, ◌/◌, ◌%◌, nat_lt}
 use Rattle.std.specs.Prelude.{if◌then◌else◌}
 
 -- what stands between two octets
@@ -21,8 +21,8 @@ pub data Case : Type 0 where
 
 -- a digit from 0 to 15: `0` to `9`, then `a` to `f` or `A` to `F`
 unfoldable pub digit_in : Case → ℕ → ℕ
-digit_in small d = if ltb d 10 then 0x30 + d else 0x61 + (d - 10)
-digit_in capital d = if ltb d 10 then 0x30 + d else 0x41 + (d - 10)
+digit_in small d = if nat_lt d 10 then 0x30 + d else 0x61 + (d - 10)
+digit_in capital d = if nat_lt d 10 then 0x30 + d else 0x41 + (d - 10)
 
 -- the choices: of octet i, counted from 0, the gap before it and the case of its two digits. Before octet 0 there is no gap.
 pub record Style : Type 0 where

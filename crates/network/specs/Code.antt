@@ -1,7 +1,7 @@
 -- Of the code: what contracts of private functions name. Nothing here need be believed: every callable routine's contract is
 -- stated without it.
 -- Assumes nothing.
-use Rattle.std.specs.Prelude.{List, ℕ, ltb}
+use Rattle.std.specs.Prelude.{List, ℕ, nat_lt}
 use Rattle.std.specs.Prelude.{if◌then◌else◌}
 use Rattle.octets.specs.Keys.{Key}
 use Rattle.settings.specs.Settings.{Settings}
@@ -14,4 +14,4 @@ use Rattle.network.specs.Opening.{Lent, Opening, leaving, floor_at, admitted}
 -- 8, 9, for a sender that has row r
 unfoldable pub opened_heard : Settings → Key → ℕ → List ℕ → Secured → Lent → Opening
 opened_heard z k r f s w =
-    if ltb s.counter (floor_at w.lists.floors (At r)) then leaving (turned_down 8) w else admitted f s w (message_of z k f s) (At r)
+    if nat_lt s.counter (floor_at w.lists.floors (At r)) then leaving (turned_down 8) w else admitted f s w (message_of z k f s) (At r)

@@ -3,7 +3,7 @@
 -- length, the sender (0 if unsecured) and the protection found (none or the key identifier)." "A refusal returns its
 -- number and nothing else; state, lists and output stay."
 -- Assumes nothing.
-use Rattle.std.specs.Prelude.{Bool, false, not, List, ℕ, ◌+◌, ◌*◌, eqb, leb, ltb, length, get_or, set}
+use Rattle.std.specs.Prelude.{Bool, false, not, List, ℕ, ◌+◌, ◌*◌, length, get_or, set, ◌==◌, nat_lt, nat_le}
 use Rattle.settings.specs.Settings.{Settings, longest, top}
 use Rattle.std.specs.Prelude.{if◌then◌else◌}
 use Rattle.octets.specs.Choice.{both}
@@ -78,8 +78,8 @@ admitted f s w (valid m) (At r) =
 -- 7 and 8, under the key of slot i
 unfoldable pub opened_under : Settings → ℕ → Key → ℕ → List ℕ → Secured → Lent → Opening
 opened_under z m k i f s w =
-    if eqb s.counter top then leaving (turned_down 7) w
-    else (if ltb s.counter (floor_of m w.lists i s.sender) then leaving (turned_down 8) w
+    if s.counter == top then leaving (turned_down 7) w
+    else (if nat_lt s.counter (floor_of m w.lists i s.sender) then leaving (turned_down 8) w
     else admitted f s w (message_of z k f s) (row_for m w.lists i s.sender))
 
 -- 6
@@ -97,8 +97,8 @@ opened_read z m ss f w (secured s) = opened_keyed z m ss f s w (slot_of ss s.seq
 
 unfoldable pub open_network : Settings → Board → List ℕ → Lent → Opening
 open_network z b f w =
-    if not (both (leb longest (length w.out)) (lists_fit w.lists)) then leaving (turned_down 1) w
-    else (if ltb longest (length f) then leaving (turned_down 2) w
+    if not (both (nat_le longest (length w.out)) (lists_fit w.lists)) then leaving (turned_down 1) w
+    else (if nat_lt longest (length f) then leaving (turned_down 2) w
     else opened_read z (half w.lists) b.slots f w (reading z Network f 0))
 
 -- ---- the look: whether the tag of a frame that is not too long (2) fits the key that is found, whatever the counter
@@ -113,4 +113,4 @@ looked_read z ss f (plain n) = false
 looked_read z ss f (secured s) = looked_keyed z ss f s (slot_of ss s.sequence)
 
 unfoldable pub look_network : Settings → Board → List ℕ → Bool
-look_network z b f = if ltb longest (length f) then false else looked_read z b.slots f (reading z Network f 0)
+look_network z b f = if nat_lt longest (length f) then false else looked_read z b.slots f (reading z Network f 0)

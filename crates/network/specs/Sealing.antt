@@ -2,7 +2,7 @@
 -- active key. It writes the secured frame likewise, answers the length, and raises the outgoing counter by 1." "Sealing: 1, 2, 3,
 -- 4, 3, 14, 6, 7", and document 02 (vi): 17, "judged after 7".
 -- Assumes nothing.
-use Rattle.std.specs.Prelude.{List, ℕ, leb, ltb, length}
+use Rattle.std.specs.Prelude.{List, ℕ, length, nat_lt, nat_le}
 use Rattle.settings.specs.Settings.{Settings, longest, longest_plain}
 use Rattle.std.specs.Prelude.{if◌then◌else◌}
 use Rattle.octets.specs.Choice.{both}
@@ -31,7 +31,7 @@ sealed_under z b f o h s =
 unfoldable pub sealed_by : Settings → Board → List ℕ → List ℕ → ℕ → Active → Framed
 sealed_by z b f o h actives.Nobody = framed (turned_down 6) b o
 sealed_by z b f o h (actives.Slot i) =
-    if both (leb i 1) (slot_at b.slots i).present then sealed_under z b f o h (slot_at b.slots i) else framed (turned_down 6) b o
+    if both (nat_le i 1) (slot_at b.slots i).present then sealed_under z b f o h (slot_at b.slots i) else framed (turned_down 6) b o
 
 -- 3, 4, 3
 unfoldable pub sealed_read : Settings → Board → List ℕ → List ℕ → PlainReading → Framed
@@ -41,6 +41,6 @@ sealed_read z b f o (headed h) = sealed_by z b f o h b.active
 -- 1, 2
 unfoldable pub seal_network : Settings → Board → List ℕ → List ℕ → Framed
 seal_network z b f o =
-    if ltb (length o) longest then framed (turned_down 1) b o
-    else (if ltb (longest_plain z) (length f) then framed (turned_down 2) b o
+    if nat_lt (length o) longest then framed (turned_down 1) b o
+    else (if nat_lt (longest_plain z) (length f) then framed (turned_down 2) b o
     else sealed_read z b f o (reading_plain Network f))

@@ -1,6 +1,6 @@
 -- Lists of octets, as the papers read and write them (RULES 1.2). An octet is a number, a string of octets a list of them.
 -- Assumes nothing.
-use Rattle.std.specs.Prelude.{Bool, true, false, List, [], ◌∷◌, ◌++◌, ℕ, zero, suc, ◌+◌, ◌<◌, eqb, leb, length, get_or, drop}
+use Rattle.std.specs.Prelude.{Bool, true, false, List, [], ◌∷◌, ◌++◌, ℕ, zero, suc, ◌+◌, ◌<◌, length, get_or, drop, ◌==◌, nat_le}
 use Rattle.std.proofs.Math.Seq.{paste}
 use Rattle.std.specs.Prelude.{if◌then◌else◌}
 use Rattle.octets.specs.Choice.{both}
@@ -19,7 +19,7 @@ abbrev pub eq_list : List ℕ → List ℕ → Bool
 eq_list [] [] = true
 eq_list [] (y ∷ b) = false
 eq_list (x ∷ a) [] = false
-eq_list (x ∷ a) (y ∷ b) = both (eqb x y) (eq_list a b)
+eq_list (x ∷ a) (y ∷ b) = both (x == y) (eq_list a b)
 
 -- s written at the start of o; the octets of o behind it stay
 abbrev pub onto : List ℕ → List ℕ → List ℕ
@@ -27,7 +27,7 @@ onto s o = s ++ drop (length s) o
 
 -- s laid into o at place i, where it fits
 abbrev pub pasted : List ℕ → ℕ → List ℕ → List ℕ
-pasted o i s = if leb (i + length s) (length o) then paste o i s (length s) else o
+pasted o i s = if nat_le (i + length s) (length o) then paste o i s (length s) else o
 
 -- every element is an octet
 pub record Octets (s : List ℕ) : Type 0 where

@@ -2,7 +2,7 @@
 -- as the reader does; another command than Tunnel is 11. Document 01, "How to write each place": "the inner frame, a part that
 -- starts in the tunnel's middle, is handed on; so are header, auxiliary header, payload and tag."
 -- Assumes nothing.
-use Rattle.std.specs.Prelude.{List, ◌++◌, ℕ, ◌+◌, ◌-◌, eqb, length}
+use Rattle.std.specs.Prelude.{List, ◌++◌, ℕ, ◌+◌, ◌-◌, length, ◌==◌}
 use Rattle.settings.specs.Settings.{Settings, aps_aux}
 use Rattle.std.specs.Prelude.{if◌then◌else◌}
 use Rattle.octets.specs.Lists.{at}
@@ -29,7 +29,7 @@ told_routed (Refused r) = halted (number_of r)
 
 -- 0E is Tunnel, whose one number is the destination
 unfoldable pub tunnel_to : CommandTold → RouteTold
-tunnel_to (untyped i xs) = if eqb i 0x0e then onward (at xs 0) else halted 11
+tunnel_to (untyped i xs) = if i == 0x0e then onward (at xs 0) else halted 11
 tunnel_to (typed i t xs) = halted 11
 
 -- the reader's refusals, then 11
@@ -62,7 +62,7 @@ start_of z Tag n = size_of z Header n + size_of z Auxiliary n + size_of z Payloa
 -- the span of a portion of the inner frame whose own span is q: "empty if refused or missing"
 unfoldable pub portion_in : Settings → Portion → Span → Span
 portion_in z w q =
-    if eqb q.count 0 then nowhere else span (q.from + start_of z w q.count) (size_of z w q.count)
+    if q.count == 0 then nowhere else span (q.from + start_of z w q.count) (size_of z w q.count)
 
 -- its span in the frame f that came under p
 unfoldable pub portion_span : Settings → Portion → List ℕ → ProtectionTold → Span

@@ -1,7 +1,7 @@
 -- Document 01, "The auxiliary header and the nonce" and "Opening and sealing" (RULES 6.7): what both layers do with a frame once they
 -- have its key. "L is 2, the tag M is 4 octets".
 -- Assumes nothing.
-use Rattle.std.specs.Prelude.{◌≡◌, Bool, true, false, List, ◌++◌, ℕ, ◌+◌, ◌<◌, eqb, leb, length, drop}
+use Rattle.std.specs.Prelude.{◌≡◌, Bool, true, false, List, ◌++◌, ℕ, ◌+◌, ◌<◌, length, drop, ◌==◌, nat_le}
 use Rattle.settings.specs.Settings.{Settings, longest, network_aux, aps_aux}
 use Rattle.std.specs.Prelude.{if◌then◌else◌}
 use Rattle.octets.specs.Choice.{both}
@@ -58,7 +58,7 @@ plain_frame l f s m = plain_header l f s.header ++ m
 
 -- the octets of the auxiliary header that is sent: "Network: identifier 1 .., 14 octets", and APS "13 octets"
 unfoldable pub sent_octets : ℕ → ℕ
-sent_octets k = if eqb k 1 then network_aux else aps_aux
+sent_octets k = if k == 1 then network_aux else aps_aux
 
 -- the secured frame of a plain frame f with h octets of header: header, auxiliary header x, ciphertext and tag
 unfoldable pub sealed_with : Settings → Key → List ℕ → Layer → List ℕ → List ℕ → ℕ → List ℕ
@@ -89,7 +89,7 @@ wrote f o = product (made (length f)) (onto f o)
 
 -- a frame that has what is announced of it, both headers and the tag, and a header that has the security bit
 unfoldable pub sound : Settings → List ℕ → Secured → Bool
-sound z f s = both (leb 2 s.header) (both (leb (s.header + s.aux + z.tag) (length f)) (leb (length f) longest))
+sound z f s = both (nat_le 2 s.header) (both (nat_le (s.header + s.aux + z.tag) (length f)) (nat_le (length f) longest))
 
 abbrev pub unsealed_onto : Layer → List ℕ → Secured → List ℕ → Verdict → Product
 unsealed_onto l f s o (valid m) = wrote (plain_frame l f s m) o
@@ -97,18 +97,18 @@ unsealed_onto l f s o invalid = product (refused 9) o
 
 unfoldable pub unsealing : Settings → Key → Layer → List ℕ → Secured → List ℕ → Product
 unsealing z k l f s o =
-    if both (sound z f s) (leb longest (length o)) then unsealed_onto l f s o (message_of z k f s) else product (refused 9) o
+    if both (sound z f s) (nat_le longest (length o)) then unsealed_onto l f s o (message_of z k f s) else product (refused 9) o
 
 unfoldable pub looking : Settings → Key → List ℕ → Secured → Bool
 looking z k f s = both (sound z f s) (genuine z k f s)
 
 -- a plain frame that has its header, one with the security bit, and leaves room for the auxiliary header and the tag
 unfoldable pub sealable : Settings → ℕ → List ℕ → ℕ → Bool
-sealable z k f h = both (leb 2 h) (both (leb h (length f)) (leb (length f + sent_octets k + z.tag) longest))
+sealable z k f h = both (nat_le 2 h) (both (nat_le h (length f)) (nat_le (length f + sent_octets k + z.tag) longest))
 
 -- nothing is made for an identifier that two bits do not hold
 unfoldable pub sealing : Settings → Key → Layer → ℕ → ℕ → ℕ → ℕ → List ℕ → ℕ → List ℕ → Product
 sealing z key l k counter sender seq f h o =
-    if both (leb k 3) (both (sealable z k f h) (leb longest (length o)))
+    if both (nat_le k 3) (both (sealable z k f h) (nat_le longest (length o)))
     then wrote (sealed_frame z key l k counter sender seq f h) o
     else product (refused 14) o

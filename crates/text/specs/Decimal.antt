@@ -1,6 +1,6 @@
 -- The bench language: "B a decimal from 0 to 255, C a decimal from 0 to 4294967295, S a decimal from 0 to 65535; decimals
 -- have no leading zero." Assumes nothing.
-use Rattle.std.specs.Prelude.{Bool, not, List, [], ◌∷◌, ◌++◌, ℕ, zero, suc, ◌/◌, ◌%◌, eqb, leb, ltb, length}
+use Rattle.std.specs.Prelude.{Bool, not, List, [], ◌∷◌, ◌++◌, ℕ, zero, suc, ◌/◌, ◌%◌, length, ◌==◌, nat_lt, nat_le}
 use Rattle.io.specs.Digits.{hex_digit_ascii}
 use Rattle.std.specs.Prelude.{if◌then◌else◌}
 use Rattle.octets.specs.Choice.{both}
@@ -12,7 +12,7 @@ use Rattle.text.specs.declared.decimal.Number.TheVariants.{Is, Bad}
 -- the last k digits of n, without a zero in front
 unfoldable pub decimal_in : ℕ → ℕ → List ℕ
 decimal_in zero n = []
-decimal_in (suc k) n = if ltb n 10 then hex_digit_ascii n ∷ [] else decimal_in k (n / 10) ++ (hex_digit_ascii (n % 10) ∷ [])
+decimal_in (suc k) n = if nat_lt n 10 then hex_digit_ascii n ∷ [] else decimal_in k (n / 10) ++ (hex_digit_ascii (n % 10) ∷ [])
 
 -- a number in decimal: 20 digits hold every number of 64 bits
 unfoldable pub decimal : ℕ → List ℕ
@@ -20,15 +20,15 @@ decimal n = decimal_in 20 n
 
 -- a zero in front of another digit
 unfoldable pub zero_led : List ℕ → Bool
-zero_led l = both (ltb 1 (length l)) (eqb (at l 0) 48)
+zero_led l = both (nat_lt 1 (length l)) (at l 0 == 48)
 
 -- l spells a number
 unfoldable pub is_decimal : List ℕ → Bool
-is_decimal l = both (ltb 0 (length l)) (both (not (zero_led l)) (all_digits 10 l))
+is_decimal l = both (nat_lt 0 (length l)) (both (not (zero_led l)) (all_digits 10 l))
 
 -- a number within a range from 0
 unfoldable pub at_most : ℕ → ℕ → Number
-at_most most n = if leb n most then Is n else Bad
+at_most most n = if nat_le n most then Is n else Bad
 
 -- the number that l spells
 unfoldable pub number_of : List ℕ → ℕ → Number

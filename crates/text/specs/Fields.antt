@@ -1,18 +1,18 @@
 -- The bench language: "A line is fields parted by one tab and ended by one line feed".
 -- A tab is the octet 9; the line feed is gone when a line comes here. Assumes nothing.
-use Rattle.std.specs.Prelude.{List, [], ◌∷◌, ℕ, zero, suc, ◌+◌, ◌-◌, eqb, length}
+use Rattle.std.specs.Prelude.{List, [], ◌∷◌, ℕ, zero, suc, ◌+◌, ◌-◌, length, ◌==◌}
 use Rattle.std.specs.Prelude.{if◌then◌else◌}
 use Rattle.octets.specs.Lists.{eq_list}
 
 -- what stands before the first tab
 unfoldable pub until : List ℕ → List ℕ
 until [] = []
-until (x ∷ l) = if eqb x 9 then [] else x ∷ until l
+until (x ∷ l) = if x == 9 then [] else x ∷ until l
 
 -- what stands behind it
 unfoldable pub after : List ℕ → List ℕ
 after [] = []
-after (x ∷ l) = if eqb x 9 then l else after l
+after (x ∷ l) = if x == 9 then l else after l
 
 -- what stands behind the first k tabs
 unfoldable pub behind : ℕ → List ℕ → List ℕ
@@ -30,7 +30,7 @@ field_from l k = length l - length (behind k l)
 -- how many tabs there are
 unfoldable pub tabs : List ℕ → ℕ
 tabs [] = 0
-tabs (x ∷ l) = if eqb x 9 then suc (tabs l) else tabs l
+tabs (x ∷ l) = if x == 9 then suc (tabs l) else tabs l
 
 -- how many fields: a tab parts two of them
 unfoldable pub fields : List ℕ → ℕ

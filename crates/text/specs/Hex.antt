@@ -1,7 +1,7 @@
 -- The bench language: "A an address, 16 hex digits, most significant first. K 32 hex digits, in octet order. F hex of
 -- 0 to 256 octets. Hex is read in either case and written small." How many octets there may be is the room that is lent.
 -- Assumes nothing.
-use Rattle.std.specs.Prelude.{Bool, List, [], ◌∷◌, ℕ, ◌+◌, ◌*◌, ◌/◌, ◌%◌, eqb, leb, length}
+use Rattle.std.specs.Prelude.{Bool, List, [], ◌∷◌, ℕ, ◌+◌, ◌*◌, ◌/◌, ◌%◌, length, ◌==◌, nat_le}
 use Rattle.io.specs.Digits.{hex_digit_ascii, last_digits}
 use Rattle.std.specs.Prelude.{if◌then◌else◌}
 use Rattle.octets.specs.Choice.{both}
@@ -33,7 +33,7 @@ read_into r o = record { answer = r; out = o }
 
 -- l is hex of whole octets, n of them at most
 unfoldable pub is_hex : List ℕ → ℕ → Bool
-is_hex l n = both (eqb (length l % 2) 0) (both (leb (length l / 2) n) (all_digits 16 l))
+is_hex l n = both ((length l % 2) == 0) (both (nat_le (length l / 2) n) (all_digits 16 l))
 
 -- the octets at the front of the output o, or o as it stood
 unfoldable pub unhexed : List ℕ → List ℕ → Unhexed
@@ -49,6 +49,6 @@ address a = last_digits 16 16 a
 -- the address that 16 digits spell
 unfoldable pub address_of : List ℕ → Address
 address_of l =
-    if both (eqb (length l) 16) (all_digits 16 l)
+    if both (length l == 16) (all_digits 16 l)
     then addresses.Is (spelt 16 0 l)
     else addresses.Bad

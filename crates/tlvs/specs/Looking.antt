@@ -1,7 +1,7 @@
 -- Document 01, "The commands" (RULES 9.3): "the value of the first TLV of a named tag"; and Relay's rule, "at least one of tag 0 with
 -- 8 or more octets".
 -- Assumes nothing.
-use Rattle.std.specs.Prelude.{Bool, true, false, List, [], ◌∷◌, ℕ, eqb, leb}
+use Rattle.std.specs.Prelude.{Bool, true, false, List, [], ◌∷◌, ℕ, ◌==◌, nat_le}
 use Rattle.std.specs.Prelude.{if◌then◌else◌}
 use Rattle.octets.specs.Choice.{both}
 use Rattle.tlvs.specs.declared.Wanted.{Wanted}
@@ -17,8 +17,8 @@ relay_octets = 8
 -- whether a TLV of that tag and size is one that is looked for
 unfoldable pub wants : Wanted → ℕ → ℕ → Bool
 wants wanted.Nothing t n = false
-wants (wanted.Tag a) t n = eqb t a
-wants wanted.Relay t n = both (eqb t 0) (leb relay_octets n)
+wants (wanted.Tag a) t n = t == a
+wants wanted.Relay t n = both (t == 0) (nat_le relay_octets n)
 
 abbrev pub first_of : Wanted → List Tlv → Walked
 first_of w [] = walks.Absent
@@ -52,7 +52,7 @@ relays s = found (walked wanted.Relay s)
 -- whether one of the TLVs has that tag
 abbrev pub among : ℕ → List Tlv → Bool
 among a [] = false
-among a (t ∷ ts) = if eqb t.tag a then true else among a ts
+among a (t ∷ ts) = if t.tag == a then true else among a ts
 
 abbrev pub among_in : ℕ → Tlvs → Bool
 among_in a ill = false
