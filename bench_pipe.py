@@ -1,7 +1,7 @@
 """Bench processes, talked to line by line through pipes: for desk.py and the scripts of tests/.
 
 A bench answers one line for each line it is sent (the bench language). By default it is the
-repository's own program, target/bin/bench, which is for x86-64 Linux; on another processor it runs
+repository's own program, crates/bench/out/bench, which is for x86-64 Linux; on another processor it runs
 under the emulator of the Rattle kit, found beside `rt`. Any other command can be given instead.
 """
 
@@ -18,11 +18,11 @@ if sys.version_info < (3, 10):
     sys.exit("Python 3.10 or later is needed")
 
 ROOT = Path(__file__).resolve().parent
-PROGRAM = ROOT / "target" / "bin" / "bench"
+PROGRAM = ROOT / "crates" / "bench" / "out" / "bench"
 PATIENCE = 60  # seconds until an answer that doesn't come is given up
 POLLED = os.name == "posix"  # elsewhere a pipe can't be waited for, and its answer must come
 BENCH_HELP = ("the command that starts a bench, as one string "
-              "(without it: target/bin/bench of this repository)")
+              "(without it: crates/bench/out/bench of this repository)")
 
 
 class Differs(Exception):
@@ -70,7 +70,7 @@ def kit_tools():
 def started_by(program):
     """The words that start a program of this repository on this machine."""
     if not program.is_file():
-        give_up(f"{program.relative_to(ROOT)} is missing: run `rt check {program.name}` first")
+        give_up(f"{program.relative_to(ROOT)} is missing: run `rt run {program.name} </dev/null` first")
     if platform.machine() == "x86_64":
         return [str(program)]
     tools = kit_tools()

@@ -6,7 +6,7 @@ each gets a network key, asks for a link key of its own, proves it and uses it.
 
     dutZC  coordinator and trust centre    gZR  router    gZED  end device, a child of gZR
 
-    python3 tests/bv08.py           the repository's target/bin/bench
+    python3 tests/bv08.py           the repository's crates/bench/out/bench
     python3 tests/bv08.py -v        the same, with every line sent and answered
     python3 tests/bv08.py --bench 'python3 -m independent bench --answer'
 

@@ -1,7 +1,7 @@
 #!/usr/bin/env python3
 """desk.py run on captures, good and bad, as a pupil runs it.
 
-    python3 tests/capture_desk.py           the repository's target/bin/bench
+    python3 tests/capture_desk.py           the repository's crates/bench/out/bench
     python3 tests/capture_desk.py --bench 'python3 -m independent bench --answer'
     python3 tests/capture_desk.py --speed   the same, and how long 10,000 frames take
 

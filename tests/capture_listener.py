@@ -1,7 +1,7 @@
 #!/usr/bin/env python3
 """The listener of captures: what it says of frames, and which keys it takes.
 
-    python3 tests/capture_listener.py           the repository's target/bin/bench
+    python3 tests/capture_listener.py           the repository's crates/bench/out/bench
     python3 tests/capture_listener.py --bench 'python3 -m independent bench --answer'
 
 Each scene is a capture whose frames the independent model sealed, with the verdicts that its author

@@ -25,7 +25,8 @@ def listed():
 
 
 def files(crate, *endings):
-    return [p for p in sorted((CRATES / crate).rglob("*")) if p.suffix in endings]
+    return [p for p in sorted((CRATES / crate).rglob("*"))
+            if p.suffix in endings and "out" not in p.relative_to(CRATES / crate).parts]
 
 
 def crates_named(crate, known):
@@ -33,10 +34,18 @@ def crates_named(crate, known):
     named = set()
     for path in files(crate, ".rt", ".antt"):
         text = path.read_text()
-        named.update(re.findall(r"Rattle·([a-z]+)[.·]", text))
+        named.update(re.findall(r"Rattle\.([a-z]+)\.", text))
         if path.suffix == ".rt":
             named.update(re.findall(r"(?<![\w:])([a-z]+)::", text))
     return (named & known) - {crate}
+
+
+def of_this_crate(text):
+    """The modules behind each `crate::`, alone or in braces."""
+    named = set(re.findall(r"crate::([a-z_]+)(?:::|;)", text))
+    for group in re.findall(r"crate::\{([^{}]*(?:\{[^{}]*\}[^{}]*)*)\}", text):
+        named.update(re.findall(r"(?<![\w:])([a-z_]+)(?=::|,|\s*$)", re.sub(r"\{[^{}]*\}", "", group)))
+    return named
 
 
 def modules_named(crate):
@@ -46,7 +55,7 @@ def modules_named(crate):
     for path in files(crate, ".rt"):
         module = "::".join(path.relative_to(source).with_suffix("").parts)
         if module not in ("lib", "main"):
-            graph[module] = set(re.findall(r"crate::([a-z_]+)(?:::|;)", path.read_text())) - {module}
+            graph[module] = of_this_crate(path.read_text()) - {module}
     return graph
 
 

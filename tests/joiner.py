@@ -6,7 +6,7 @@ Encapsulation "in its entirety". The centre asks for it by its tag, and for what
 
     centre  trust centre, 0x0000    router  0x3c08    joiner  end device, 0x0bee
 
-    python3 tests/joiner.py           the repository's target/bin/bench
+    python3 tests/joiner.py           the repository's crates/bench/out/bench
     python3 tests/joiner.py -v        the same, with every line sent and answered
     python3 tests/joiner.py --bench 'python3 -m independent bench --answer'
 

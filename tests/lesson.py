@@ -1,7 +1,7 @@
 #!/usr/bin/env python3
 """The lessons of examples/, answered by the bench: every answer must be the stored one.
 
-    python3 tests/lesson.py           the repository's target/bin/bench
+    python3 tests/lesson.py           the repository's crates/bench/out/bench
     python3 tests/lesson.py --bench 'python3 -m independent bench --answer'
 
 examples/NAME.bench has the lines, examples/NAME.answers the answers, which `python3 -m independent

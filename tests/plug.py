@@ -1,7 +1,7 @@
 #!/usr/bin/env python3
 """desk.py --store, with the plug pulled: no counter comes twice.
 
-    python3 tests/plug.py                  the repository's target/bin/bench, 40 random cuts
+    python3 tests/plug.py                  the repository's crates/bench/out/bench, 40 random cuts
     python3 tests/plug.py --rounds 1000    the same with more of them: some minutes
     python3 tests/plug.py --bench 'python3 -m independent bench --answer'
 

@@ -1,7 +1,7 @@
 #!/usr/bin/env python3
 """The pages that desk.py --report writes, opened in Chromium: what is shown must be what was heard.
 
-    python3 tests/report.py                  the repository's target/bin/bench
+    python3 tests/report.py                  the repository's crates/bench/out/bench
     python3 tests/report.py --keep FOLDER    the same, and keeps the pages to look at
     python3 tests/report.py --bench 'python3 -m independent bench --answer'
 

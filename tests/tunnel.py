@@ -6,7 +6,7 @@ for it, wraps it in a Tunnel for the router, and the router sends the inner fram
 
     centre  trust centre, 0x0000    router  0x3c08    joiner  end device, 0x0bee
 
-    python3 tests/tunnel.py           the repository's target/bin/bench
+    python3 tests/tunnel.py           the repository's crates/bench/out/bench
     python3 tests/tunnel.py -v        the same, with every line sent and answered
     python3 tests/tunnel.py --bench 'python3 -m independent bench --answer'
 

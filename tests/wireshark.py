@@ -1,7 +1,7 @@
 #!/usr/bin/env python3
 """Frames sealed by the bench, opened by Wireshark.
 
-    python3 tests/wireshark.py                      the repository's target/bin/bench
+    python3 tests/wireshark.py                      the repository's crates/bench/out/bench
     python3 tests/wireshark.py --keep frames.pcap   the same, and keeps the capture to look at
     python3 tests/wireshark.py --bench 'python3 -m independent bench --answer'
 

@@ -5,7 +5,6 @@
         --list          print the functions that have no edit yet, and try nothing
         --places        only see that every edit still finds its text
         --only NAME     the edits of the functions of that name alone; may be given again
-        --quick         by `rt dev`, which is not the verdict: rounds after the first take less time
         --logs DIR      keep the prover's whole log of each round in DIR
 
 A function is proved against the promises of those it calls, never against their code. So a copy of a
@@ -27,9 +26,9 @@ proof of ours is not tried by the kit while one that it calls is not proved: it 
 with `same:` for `wrong:` changes nothing that can be observed: these make a round of their own, the control,
 in which every edited function must still be proved. A line that starts with `#` is a comment.
 
-Each round is one `rt check CRATE` in a copy outside the repository, with the lower crates as this
-repository has them proved: run `rt check` first, or each copy proves them anew. The last line has the
-totals. The exit code is 0; 1 where a wrong edit has no failing fact of its own, or a control is refused;
+Each round is one `rt check` of the crate in a copy outside the repository. It begins with what checks
+on this machine kept of the same crates: run `rt all check` first, or each copy proves the lower crates
+anew. The last line has the totals. The exit code is 0; 1 where a wrong edit has no failing fact of its own, or a control is refused;
 2 where nothing could be tried. Not part of the gate.
 """
 
@@ -54,7 +53,7 @@ FACT, SHAPE, NONE = "refused for a fact", "refused for shape alone", "NOT REFUSE
 FACTS = re.compile(
     r"no proof of|does not follow|does not close|the (two|whole) types? (first )?differ|differ only where|"
     r"expected type|but this has type|what it leaves must be|had joined|does not join|no equation of the list|"
-    r"does not hold")
+    r"does not hold|did not prove|it is not proved that|give a proof of that")
 # What it says where the proof's text does not fit the code, whatever holds of it.
 SHAPES = re.compile(
     r"has no (`|field|member|name)|not in scope|unknown|no such|is not defined|missing (field|clause|case)|"
@@ -201,16 +200,14 @@ def below(crate):
 
 
 def make_copy(folder, crate):
-    """A repository of the crate and those below it, which are proved already."""
-    shutil.copy(ROOT / "crates.txt", folder / "crates.txt")
-    for part in ("rlib", "stamp"):
-        (folder / "target" / part).mkdir(parents=True)
-    for name in [crate, *below(crate)]:
-        shutil.copytree(ROOT / "crates" / name, folder / "crates" / name)
-        stamp, rlib = ROOT / "target" / "stamp" / name, ROOT / "target" / "rlib" / (name + ".rlib")
-        if name != crate and stamp.is_file() and rlib.is_dir():
-            shutil.copy(stamp, folder / "target" / "stamp" / name)
-            shutil.copytree(rlib, folder / "target" / "rlib" / rlib.name)
+    """A repository of the crate and those below it."""
+    names = [crate, *below(crate)]
+    lines = (ROOT / "crates.txt").read_text(encoding="utf-8").splitlines()
+    kept = [line for line in lines if line.partition(":")[0].strip() in names]
+    (folder / "crates.txt").write_text("\n".join(kept) + "\n", encoding="utf-8")
+    for name in names:
+        shutil.copytree(ROOT / "crates" / name, folder / "crates" / name,
+                        ignore=shutil.ignore_patterns("out"))
 
 
 def apply(folder, crate, edits):
@@ -263,7 +260,7 @@ def judge(edit, log, messages):
     """What became of an edited function: FACT, SHAPE or NONE, and the words for it."""
     path = "proofs/" + edit.function.replace("::", "/") + "/"
     own = [text for file, text in messages
-           if f"/{edit.crate}/{path}" in file and not ECHO.search(text)]
+           if "/" + path in file and not ECHO.search(text)]
     verdict = next((v for v in map(VERDICT.match, log.splitlines())
                     if v and v[1] == edit.crate + "::" + edit.function), None)
     if verdict is None:
@@ -285,28 +282,21 @@ def judge(edit, log, messages):
 
 # ---- a round -------------------------------------------------------------------------------------
 
-def check(folder, crate, quick):
-    """What the prover says of the crate. Quick is `rt dev`, which keeps what a round does not change."""
-    words = dict(os.environ, RT_CUT="0", RT_JOBS="1")
-    run = subprocess.Popen(["rt", "dev" if quick else "check", crate], cwd=folder, env=words,
+def check(folder, crate):
+    """What the prover says of the crate."""
+    run = subprocess.Popen(["rt", "check"], cwd=folder / "crates" / crate,
                            stdout=subprocess.PIPE, stderr=subprocess.STDOUT, start_new_session=True)
     try:
-        said = run.communicate()[0].decode(encoding="utf-8", errors="replace")
+        return run.communicate()[0].decode(encoding="utf-8", errors="replace")
     except BaseException:
         os.killpg(run.pid, signal.SIGTERM)
         raise
-    if quick:
-        return said
-    log = folder / "target" / "log" / (crate + ".out")
-    if not log.is_file():
-        raise Bad(f"rt check {crate} wrote no log; it said: {said.strip()[-300:]}")
-    return log.read_text(encoding="utf-8", errors="replace")
 
 
 def try_round(folder, crate, turn, edits, counts, words):
     began = time.time()
     apply(folder, crate, edits)
-    log = check(folder, crate, words.quick)
+    log = check(folder, crate)
     if words.logs:
         (words.logs / f"{crate}-{turn}.log").write_text(log, encoding="utf-8")
     title = "the control round" if turn == "control" else f"round {turn}"
@@ -362,7 +352,6 @@ def main():
     asked.add_argument("crates", nargs="*", metavar="CRATE")
     asked.add_argument("--list", action="store_true", help="the functions that have no edit yet")
     asked.add_argument("--places", action="store_true", help="only see that each edit finds its text")
-    asked.add_argument("--quick", action="store_true", help="by rt dev, which is not the verdict")
     asked.add_argument("--only", action="append", metavar="FUNCTION", help="the edits of these alone")
     asked.add_argument("--logs", type=Path, metavar="DIR", help="keep the log of each round there")
     words = asked.parse_args()
