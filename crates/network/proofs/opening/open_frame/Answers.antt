@@ -14,8 +14,6 @@ use Rattle.board.proofs.Halves.{lists-long}
 use Rattle.network.proofs.Admission.{read-sound}
 use Rattle.network.proofs.opening.open_frame.Goals as goal
 
--- what the tests before have shown: there is room, the lists fit, the frame is not too long
-
 pub returns-then-out-lt-LONGEST : goal.returns-then-out-lt-LONGEST
 unfolding open_network
 returns-then-out-lt-LONGEST c = simp (lt-leb _ _ c.if-out-lt-LONGEST.true)
