@@ -70,7 +70,7 @@ def kit_tools():
 def started_by(program):
     """The words that start a program of this repository on this machine."""
     if not program.is_file():
-        give_up(f"{program.relative_to(ROOT)} is missing: run `rt run {program.name} </dev/null` first")
+        give_up(f"{program.relative_to(ROOT)} is missing: run `rt run </dev/null` in crates/{program.name}")
     if platform.machine() == "x86_64":
         return [str(program)]
     tools = kit_tools()

@@ -8,7 +8,7 @@
 
 A capture (pcap or pcapng, gzip or not) gives a log with one line for each frame, docs/CAPTURE.md; a
 script is shown line by line with the answers, docs/BENCH.md. Where the bench is not built yet, it
-is proved and built first (`rt run bench`, some minutes; each function is named as it is proved).
+is proved and built first (`rt run` in crates/bench, some minutes).
 """
 
 import argparse
@@ -41,8 +41,8 @@ def build():
     if shutil.which("rt") is None:
         give_up(NO_KIT)
     show.message("The bench is proved and built first; this takes some minutes.")
-    built = subprocess.run(["rt", "run", "bench"], cwd=ROOT, check=False, stdin=subprocess.DEVNULL,
-                           stdout=sys.stderr)
+    built = subprocess.run(["rt", "run"], cwd=PROGRAM.parent.parent, check=False,
+                           stdin=subprocess.DEVNULL, stdout=sys.stderr)
     if built.returncode != 0:
         give_up("The bench could not be proved and built; --model does without it.")
     if not PROGRAM.is_file():
