@@ -28,8 +28,8 @@ in which every edited function must still be proved. A line that starts with `#`
 
 Each round is one `rt check` of the crate in a copy outside the repository. It begins with what checks
 on this machine kept of the same crates: run `rt all check` first, or each copy proves the lower crates
-anew. The last line has the totals. The exit code is 0; 1 where a wrong edit has no failing fact of its own, or a control is refused;
-2 where nothing could be tried. Not part of the gate.
+anew. The last line has the totals. The exit code is 0; 1 where a wrong edit has no failing fact of
+its own, or a control is refused; 2 where nothing could be tried. The gate asks for --places alone.
 """
 
 import argparse
