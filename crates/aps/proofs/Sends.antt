@@ -1,5 +1,6 @@
 -- Sealing under a link key, of what its calls answered.
 -- Assumes nothing.
+use Rattle.std.proofs.Common.{Option, Some}
 use mathlib.Core.Path.{◌≡◌, refl, sym, ap, ap₂, ◌∙◌}
 use mathlib.Core.Bool.{true, not}
 use mathlib.Core.List.{List}
@@ -20,8 +21,6 @@ use Rattle.board.specs.declared.Board.{Board}
 use Rattle.board.specs.declared.Sending.{Sending}
 use Rattle.board.specs.Sending.{raised, with_outgoing, spent, framed, sending_of, may_send, send}
 use Rattle.board.proofs.Sends.{send-refused, send-done}
-use Rattle.seals.specs.declared.Enclosed.{Enclosed}
-use Rattle.seals.specs.declared.Enclosed.TheVariants.{Octets}
 use Rattle.seals.specs.Sealing.{sent_octets, sealed_frame, sealing, told_enclosed}
 use Rattle.seals.proofs.Again.{Suited}
 use Rattle.seals.proofs.Securing.{Sealable, sealed-length}
@@ -55,7 +54,7 @@ module _ (z : Settings) (s : Sending) (key : Key) (k : ℕ) (f : List ℕ) (h : 
   refused-link n m b e = send-refused s b e (sealed_frame z (key_for key k) Aps k b.outgoing b.own 0 f h) o n m
 
   pub sealed-link : k ≤ 3 → Sealable z k f h → longest ≤ length o → may_send s ≡ done
-      → (x : Key) (w : Enclosed) (m : ℕ) (p : List ℕ) → x ≡ key_for key k → w ≡ Octets m
+      → (x : Key) (w : Option ℕ) (m : ℕ) (p : List ℕ) → x ≡ key_for key k → w ≡ Some m
       → product (told_enclosed w) p ≡ sealing z x Aps k s.counter s.own 0 f h o → (b : Board) → sending_of b ≡ s
       → framed (sealed m) (with_outgoing b (raised b.outgoing)) p ≡ sealed_under z b f o h k key
   unfolding sealed_under spent

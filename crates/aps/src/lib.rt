@@ -15,6 +15,6 @@ pub use sealing::seal_frame;
 // What opening answers, and the board that it leaves.
 #[derive(Clone, Copy)]
 pub struct Received {
-    pub answer: Opened,
+    pub answer: Result<Opened, Refusal>,
     pub board: Board,
 }

@@ -5,7 +5,7 @@ ghost use Rattle.board.specs.Requests.{link_of};
 ghost use Rattle.aps.specs.Opening.{looked_keyed, look_aps};
 
 use crate::keys::key_named;
-use board::{Board, Link, Place};
+use board::{Board, Link};
 use frames::{Layer, Read, Secured};
 use settings::LONGEST_APS;
 
@@ -18,9 +18,9 @@ pub fn look_frame(board: Board, frame: &[u8], given: u64) -> bool
         return false;
     }
     match frames::read_frame(Layer::Aps, frame, given) {
-        Read::Refused(_) => false,
-        Read::Plain(_) => false,
-        Read::Secured(s) => {
+        Err(_) => false,
+        Ok(Read::Plain(_)) => false,
+        Ok(Read::Secured(s)) => {
             let links = board.links;
             look_keyed(links, frame, s)
         }
@@ -31,10 +31,10 @@ fn look_keyed(links: [Link; 8], f: &[u8], s: Secured) -> bool
     ensures { result ≡ looked_keyed ours links f.now s (link_of links s.sender) }
 {
     match board::link_of(links, s.sender) {
-        Place::At(i) => {
+        Some(i) => {
             let l = links[i];
             seals::look(key_named(l, s), f, s)
         }
-        Place::Absent => false,
+        None => false,
     }
 }

@@ -11,10 +11,9 @@ ghost use Rattle.aps.specs.Code.{linked};
 
 use crate::Received;
 use crate::keys::{identifier, key_named};
-use answers::{Guard, Opened, Refusal};
-use board::{Board, Link, Place};
+use answers::{Opened, Refusal};
+use board::{Board, Link};
 use frames::{Layer, Read, Secured};
-use seals::Unsealed;
 use settings::{LONGEST, LONGEST_APS, TOP};
 
 // What opening answers, the entry that it changes, if any, and what then stands there. The stages
@@ -22,14 +21,14 @@ use settings::{LONGEST, LONGEST_APS, TOP};
 // the cipher works.
 #[derive(Clone, Copy)]
 struct Heard {
-    answer: Opened,
-    entry: Place,
+    answer: Result<Opened, Refusal>,
+    entry: Option<usize>,
     link: Link,
 }
 
 // An answer that changes no entry.
-fn unmoved(answer: Opened) -> Heard
-    ensures { (result.answer ≡ answer) × (result.entry ≡ Place.Absent) }
+fn unmoved(answer: Result<Opened, Refusal>) -> Heard
+    ensures { (result.answer ≡ answer) × (result.entry ≡ None) }
 {
     let link = Link {
         present: false,
@@ -39,7 +38,7 @@ fn unmoved(answer: Opened) -> Heard
     };
     Heard {
         answer,
-        entry: Place::Absent,
+        entry: None,
         link,
     }
 }
@@ -48,11 +47,11 @@ fn unmoved(answer: Opened) -> Heard
 fn admit(l: Link, i: usize, f: &[u8], s: Secured, out: &mut [u8]) -> Heard
     requires { (sound ours f.now s ≡ true) × ((longest ≤ length out.old) × ((s.counter < top) × (i < 8))) }
     ensures out_after { (b : Board) → link_at b.links i ≡ l → framed (told_opened result.answer) (linked b result.entry result.link) out.new ≡ admitted b f.now s out.old i (message_of ours (key_named l s) f.now s) }
-    ensures by_index { (j : ℕ) → result.entry ≡ Place.At j → j < 8 }
+    ensures by_index { (j : ℕ) → result.entry ≡ Some j → j < 8 }
 {
     match seals::unseal(key_named(l, s), Layer::Aps, f, s, out) {
-        Unsealed::Plain(n) => {
-            let guard = Guard::Under(identifier(s));
+        Some(n) => {
+            let guard = Some(identifier(s));
             let answer = Opened::Frame(n, s.sender, guard);
             // Field by field: a whole copy, changed in its floor, would stand on the stack too.
             let key = l.key;
@@ -65,24 +64,24 @@ fn admit(l: Link, i: usize, f: &[u8], s: Secured, out: &mut [u8]) -> Heard
             };
             Heard {
                 answer,
-                entry: Place::At(i),
+                entry: Some(i),
                 link,
             }
         }
-        Unsealed::Forged => unmoved(Opened::Refused(Refusal::Forged)),
+        None => unmoved(Err(Refusal::Forged)),
     }
 }
 
 fn open_under(l: Link, i: usize, f: &[u8], s: Secured, out: &mut [u8]) -> Heard
     requires { (sound ours f.now s ≡ true) × ((longest ≤ length out.old) × (i < 8)) }
     ensures out_after { (b : Board) → link_at b.links i ≡ l → framed (told_opened result.answer) (linked b result.entry result.link) out.new ≡ opened_under ours b f.now s out.old i }
-    ensures by_index { (j : ℕ) → result.entry ≡ Place.At j → j < 8 }
+    ensures by_index { (j : ℕ) → result.entry ≡ Some j → j < 8 }
 {
     if s.counter == TOP {
-        return unmoved(Opened::Refused(Refusal::Top));
+        return unmoved(Err(Refusal::Top));
     }
     if s.counter < l.floor {
-        return unmoved(Opened::Refused(Refusal::Stale));
+        return unmoved(Err(Refusal::Stale));
     }
     admit(l, i, f, s, out)
 }
@@ -90,34 +89,34 @@ fn open_under(l: Link, i: usize, f: &[u8], s: Secured, out: &mut [u8]) -> Heard
 fn open_keyed(links: [Link; 8], f: &[u8], s: Secured, out: &mut [u8]) -> Heard
     requires { (sound ours f.now s ≡ true) × (longest ≤ length out.old) }
     ensures out_after { (b : Board) → b.links ≡ links → framed (told_opened result.answer) (linked b result.entry result.link) out.new ≡ opened_keyed ours b f.now s out.old (link_of b.links s.sender) }
-    ensures by_index { (j : ℕ) → result.entry ≡ Place.At j → j < 8 }
+    ensures by_index { (j : ℕ) → result.entry ≡ Some j → j < 8 }
 {
     match board::link_of(links, s.sender) {
-        Place::At(i) => {
+        Some(i) => {
             let l = links[i];
             open_under(l, i, f, s, out)
         }
-        Place::Absent => unmoved(Opened::Refused(Refusal::NoKey)),
+        None => unmoved(Err(Refusal::NoKey)),
     }
 }
 
 fn open_read(links: [Link; 8], f: &[u8], given: u64, out: &mut [u8]) -> Heard
     ensures out_after { (b : Board) → b.links ≡ links → framed (told_opened result.answer) (linked b result.entry result.link) out.new ≡ open_aps ours b f.now given out.old }
-    ensures by_index { (j : ℕ) → result.entry ≡ Place.At j → j < 8 }
+    ensures by_index { (j : ℕ) → result.entry ≡ Some j → j < 8 }
 {
     if out.len() < LONGEST {
-        return unmoved(Opened::Refused(Refusal::Room));
+        return unmoved(Err(Refusal::Room));
     }
     if LONGEST_APS < f.len() {
-        return unmoved(Opened::Refused(Refusal::Long));
+        return unmoved(Err(Refusal::Long));
     }
     match frames::read_frame(Layer::Aps, f, given) {
-        Read::Refused(r) => unmoved(Opened::Refused(r)),
-        Read::Plain(_) => {
+        Err(r) => unmoved(Err(r)),
+        Ok(Read::Plain(_)) => {
             octets::paste_at(out, 0, f);
-            unmoved(Opened::Frame(f.len(), 0, Guard::Clear))
+            unmoved(Opened::Frame(f.len(), 0, None))
         }
-        Read::Secured(s) => open_keyed(links, f, s, out),
+        Ok(Read::Secured(s)) => open_keyed(links, f, s, out),
     }
 }
 
@@ -133,11 +132,11 @@ pub fn open_frame(board: Board, frame: &[u8], given: u64, out: &mut [u8]) -> Rec
     let answer = heard.answer;
     let entry = heard.entry;
     match entry {
-        Place::At(i) => {
+        Some(i) => {
             let link = heard.link;
             next.links[i] = link;
         }
-        Place::Absent => {}
+        None => {}
     }
     Received {
         answer,

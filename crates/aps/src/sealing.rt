@@ -9,10 +9,9 @@ ghost use Rattle.board.specs.Sending.{with_outgoing, counter_after, framed, send
 ghost use Rattle.aps.specs.Sealing.{named, sealed_under, sealed_for, seal_aps};
 
 use crate::keys::key_for;
-use answers::{Outcome, Refusal, Sealed};
-use board::{Board, Link, Place, Sending, Sent};
-use frames::{Layer, PlainRead};
-use seals::Enclosed;
+use answers::{Refusal};
+use board::{Board, Link, Sending, Sent};
+use frames::{Layer};
 use settings::{LONGEST, LONGEST_APS_PLAIN};
 
 // Whether an identifier names a key of a link entry.
@@ -25,18 +24,18 @@ fn is_named(identifier: u8) -> bool
     identifier != 1
 }
 
-fn seal_under(sending: Sending, key: [u8; 16], k: u8, f: &[u8], h: usize, out: &mut [u8]) -> Sealed
+fn seal_under(sending: Sending, key: [u8; 16], k: u8, f: &[u8], h: usize, out: &mut [u8]) -> Result<usize, Refusal>
     requires { ((2 ≤ h) × (h ≤ length f.now)) × ((length f.now ≤ longest_aps_plain ours) × ((longest ≤ length out.old) × (named k ≡ true))) }
     ensures { (b : Board) → sending_of b ≡ sending → framed (told_sealed result) (with_outgoing b (counter_after (told_sealed result) b.outgoing)) out.new ≡ sealed_under ours b f.now out.old h k (the_key key) }
 {
     match board::may_send(sending) {
-        Outcome::Refused(r) => Sealed::Refused(r),
-        Outcome::Done => {
+        Err(r) => Err(r),
+        Ok(()) => {
             let named = key_for(key, k);
             let counter = sending.counter;
             match seals::seal(named, Layer::Aps, k, counter, sending.own, 0, f, h, out) {
-                Enclosed::Octets(n) => Sealed::Frame(n),
-                Enclosed::Nothing => Sealed::Refused(Refusal::Room),
+                Some(n) => Ok(n),
+                None => Err(Refusal::Room),
             }
         }
     }
@@ -50,34 +49,34 @@ fn seal_for(
     f: &[u8],
     h: usize,
     out: &mut [u8],
-) -> Sealed
+) -> Result<usize, Refusal>
     requires { ((2 ≤ h) × (h ≤ length f.now)) × ((length f.now ≤ longest_aps_plain ours) × ((longest ≤ length out.old) × (named k ≡ true))) }
     ensures { (b : Board) → b.links ≡ links → sending_of b ≡ sending → framed (told_sealed result) (with_outgoing b (counter_after (told_sealed result) b.outgoing)) out.new ≡ sealed_for ours b f.now out.old h k (link_of b.links a) }
 {
     match board::link_of(links, a) {
-        Place::At(i) => {
+        Some(i) => {
             let l = links[i];
             let key = l.key;
             seal_under(sending, key, k, f, h, out)
         }
-        Place::Absent => Sealed::Refused(Refusal::NoKey),
+        None => Err(Refusal::NoKey),
     }
 }
 
-fn seal_read(links: [Link; 8], sending: Sending, f: &[u8], a: u64, k: u8, out: &mut [u8]) -> Sealed
+fn seal_read(links: [Link; 8], sending: Sending, f: &[u8], a: u64, k: u8, out: &mut [u8]) -> Result<usize, Refusal>
     ensures { (b : Board) → b.links ≡ links → sending_of b ≡ sending → framed (told_sealed result) (with_outgoing b (counter_after (told_sealed result) b.outgoing)) out.new ≡ seal_aps ours b f.now a k out.old }
 {
     if out.len() < LONGEST {
-        return Sealed::Refused(Refusal::Room);
+        return Err(Refusal::Room);
     }
     if LONGEST_APS_PLAIN < f.len() {
-        return Sealed::Refused(Refusal::Long);
+        return Err(Refusal::Long);
     }
     match frames::read_plain(Layer::Aps, f) {
-        PlainRead::Refused(r) => Sealed::Refused(r),
-        PlainRead::Header(h) => {
+        Err(r) => Err(r),
+        Ok(h) => {
             if !is_named(k) {
-                return Sealed::Refused(Refusal::Argument);
+                return Err(Refusal::Argument);
             }
             seal_for(links, sending, a, k, f, h, out)
         }

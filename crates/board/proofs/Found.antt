@@ -1,5 +1,6 @@
 -- Laws of the first place that passes a test: a turn of the loop that looks for it, and what an answer tells.
 -- Assumes nothing.
+use Rattle.std.proofs.Common.{Some, None}
 use mathlib.Core.Path.{◌≡◌, refl, ap}
 use mathlib.Core.Logic.{⊎_elim}
 use mathlib.Core.Bool.{Bool, true, false, not}
@@ -10,7 +11,6 @@ use native.Mathlib.Omega.{arith}
 use lib.Dec.{eqb}
 use lib.ListN.{length, get_or}
 use Rattle.std.specs.Prelude.{if◌then◌else◌}
-use Rattle.board.specs.declared.Place.TheVariants.{At, Absent}
 use Rattle.board.specs.Places.{first_at}
 use Rattle.board.specs.declared.Slot.{Slot}
 use Rattle.board.specs.declared.Link.{Link}
@@ -21,7 +21,7 @@ use Rattle.board.specs.Requests.{slot_of, link_of, free_link}
 module _ (p : ℕ → Bool) where
   -- ---- the loop, with the places from i to the end left
 
-  pub first-hit : (i e : ℕ) → i < e → p i ≡ true → first_at p i (e - i) ≡ At i
+  pub first-hit : (i e : ℕ) → i < e → p i ≡ true → first_at p i (e - i) ≡ Some i
   unfolding first_at
   first-hit i e h t = let s : e - i ≡ suc (e - (i + 1)) = omega arith in rw s (rw t refl)
 
@@ -29,7 +29,7 @@ module _ (p : ℕ → Bool) where
   unfolding first_at
   first-miss i e h t = let s : e - i ≡ suc (e - (i + 1)) = omega arith in rw s (rw t refl)
 
-  pub first_done : (i e : ℕ) → e ≤ i → first_at p i (e - i) ≡ Absent
+  pub first_done : (i e : ℕ) → e ≤ i → first_at p i (e - i) ≡ None
   unfolding first_at
   first_done i e h = let s : e - i ≡ 0 = omega arith in rw s refl
 
@@ -41,7 +41,7 @@ module _ (p : ℕ → Bool) where
     pub high : r < i + n
     pub before : (k : ℕ) → i ≤ k → k < r → p k ≡ false
 
-  pub first_found : (n i r : ℕ) → first_at p i n ≡ At r → FoundAt i n r
+  pub first_found : (n i r : ℕ) → first_at p i n ≡ Some r → FoundAt i n r
   unfolding first_at
   first_found zero i r e = let z : ◌≡◌ {A = ℕ} 0 1 = cc in absurd (omega arith)
   first_found (suc n) i r e = go (first_found n (i + 1) r) (p i) refl e
@@ -64,18 +64,18 @@ module _ (p : ℕ → Bool) where
             before = λ k h l. ⊎_elim (λ (q : i ≡ k). rw (← q) t) (λ (q : i < k). f.before k (omega arith) l) (eq-or-lt_of_le h);
           }
 
-      go : (first_at p (i + 1) n ≡ At r → FoundAt (i + 1) n r) → (t : Bool) → p i ≡ t
-          → (if t then At i else first_at p (i + 1) n) ≡ At r → FoundAt i (suc n) r
+      go : (first_at p (i + 1) n ≡ Some r → FoundAt (i + 1) n r) → (t : Bool) → p i ≡ t
+          → (if t then Some i else first_at p (i + 1) n) ≡ Some r → FoundAt i (suc n) r
       go ih true t q = here t (cc)
       go ih false t q = later t (ih q)
 
-  pub first-none : (n i : ℕ) → first_at p i n ≡ Absent → (k : ℕ) → i ≤ k → k < i + n → p k ≡ false
+  pub first-none : (n i : ℕ) → first_at p i n ≡ None → (k : ℕ) → i ≤ k → k < i + n → p k ≡ false
   unfolding first_at
   first-none zero i e k h l = absurd (omega arith)
   first-none (suc n) i e k h l = go (first-none n (i + 1)) (p i) refl e
     where
-      go : (first_at p (i + 1) n ≡ Absent → (k : ℕ) → i + 1 ≤ k → k < i + 1 + n → p k ≡ false) → (t : Bool) → p i ≡ t
-          → (if t then At i else first_at p (i + 1) n) ≡ Absent → p k ≡ false
+      go : (first_at p (i + 1) n ≡ None → (k : ℕ) → i + 1 ≤ k → k < i + 1 + n → p k ≡ false) → (t : Bool) → p i ≡ t
+          → (if t then Some i else first_at p (i + 1) n) ≡ None → p k ≡ false
       go ih true t q = let z : ◌≡◌ {A = ℕ} 0 1 = cc in absurd (omega arith)
       go ih false t q =
           ⊎_elim (λ (s : i ≡ k). rw (← s) t) (λ (s : i < k). ih q k (omega arith) (omega arith)) (eq-or-lt_of_le h)
@@ -86,7 +86,7 @@ unfolding find_row
 rows-there al i n a h = let e : min n (length al - i) ≡ n = omega arith in ap (first_at (λ r. eqb (get_or al r 0) a) i) e
 
 -- a row, a slot, or a link entry, that was found is one of those there are
-pub row-place : (al : List ℕ) (i n a r : ℕ) → find_row al i n a ≡ At r → r < length al
+pub row-place : (al : List ℕ) (i n a r : ℕ) → find_row al i n a ≡ Some r → r < length al
 unfolding find_row
 row-place al i n a r e =
     let w = first_found (λ k. eqb (get_or al k 0) a) (min n (length al - i)) i r e in
@@ -94,14 +94,14 @@ row-place al i n a r e =
     let high = w.high in
     omega arith
 
-pub slot-place : (ss : List Slot) (n i : ℕ) → slot_of ss n ≡ At i → i < 2
+pub slot-place : (ss : List Slot) (n i : ℕ) → slot_of ss n ≡ Some i → i < 2
 unfolding slot_of
 slot-place ss n i e = (first_found (λ k. carries (slot_at ss k) n) 2 0 i e).high
 
-pub link-place : (ls : List Link) (a i : ℕ) → link_of ls a ≡ At i → i < 8
+pub link-place : (ls : List Link) (a i : ℕ) → link_of ls a ≡ Some i → i < 8
 unfolding link_of
 link-place ls a i e = (first_found (λ k. pairs (link_at ls k) a) 8 0 i e).high
 
-pub free-place : (ls : List Link) (i : ℕ) → free_link ls ≡ At i → i < 8
+pub free-place : (ls : List Link) (i : ℕ) → free_link ls ≡ Some i → i < 8
 unfolding free_link
 free-place ls i e = (first_found (λ k. not (link_at ls k).present) 8 0 i e).high

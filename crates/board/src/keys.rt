@@ -10,7 +10,7 @@ ghost use Rattle.board.specs.Requests.{install, switch};
 use crate::places::{did, refuse};
 use crate::rows::{free_rows, lists_fit};
 use crate::state::{with_active, with_slot};
-use crate::{After, Board, Place, Slot};
+use crate::{After, Board, Slot};
 use answers::Refusal;
 
 fn carries_number(s: Slot, sequence: u8) -> bool
@@ -39,7 +39,7 @@ pub fn install(
     slot: usize,
     sequence: u8,
     key: [u8; 16],
-) -> After
+) -> After<()>
     ensures { left (told result.answer) result.board (lists addrs.new floors.new) ≡ install board (lists addrs.old floors.old) slot sequence (the_key key) }
 {
     if !lists_fit(addrs, floors) {
@@ -67,27 +67,27 @@ pub fn install(
 }
 
 // The lowest present slot with that sequence number.
-pub fn slot_of(slots: [Slot; 2], sequence: u8) -> Place
+pub fn slot_of(slots: [Slot; 2], sequence: u8) -> Option<usize>
     ensures { result ≡ slot_of slots sequence }
 {
     let first = slots[0];
     if carries_number(first, sequence) {
-        return Place::At(0);
+        return Some(0);
     }
     let second = slots[1];
     if carries_number(second, sequence) {
-        return Place::At(1);
+        return Some(1);
     }
-    Place::Absent
+    None
 }
 
 // The present slot with that sequence number becomes active, else 13.
-pub fn switch(board: Board, sequence: u8) -> After
+pub fn switch(board: Board, sequence: u8) -> After<()>
     ensures { changed (told result.answer) result.board ≡ switch board sequence }
 {
     let slots = board.slots;
     match slot_of(slots, sequence) {
-        Place::At(i) => did(with_active(board, i)),
-        Place::Absent => refuse(Refusal::Absent, board),
+        Some(i) => did(with_active(board, i)),
+        None => refuse(Refusal::Absent, board),
     }
 }

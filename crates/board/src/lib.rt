@@ -10,20 +10,13 @@ mod places;
 mod rows;
 mod state;
 
-use answers::{Outcome, Sealed};
+use answers::Refusal;
 pub use keys::{install, slot_of, switch};
 pub use mark::{move_mark, next_mark};
 pub use outgoing::{counter_after, may_send, sending_of};
 pub use partners::{add_link, link_of, remove_link};
 pub use rows::{find_row, forget, lists_fit};
 pub use state::make;
-
-// The lowest place that was looked for.
-#[derive(Clone, Copy)]
-pub enum Place {
-    At(usize),
-    Absent,
-}
 
 // A network key and its sequence number.
 #[derive(Clone, Copy)]
@@ -42,12 +35,6 @@ pub struct Link {
     pub floor: u32,
 }
 
-#[derive(Clone, Copy)]
-pub enum Active {
-    Nobody,
-    Slot(usize),
-}
-
 // The state. The mark is above every counter that was sent: the host's store holds it, or the next.
 #[derive(Clone, Copy)]
 pub struct Board {
@@ -56,14 +43,14 @@ pub struct Board {
     pub mark: u32,
     pub aps: u8,
     pub slots: [Slot; 2],
-    pub active: Active,
+    pub active: Option<usize>,
     pub links: [Link; 8],
 }
 
 // A request's answer, and the board that it leaves.
 #[derive(Clone, Copy)]
-pub struct After {
-    pub answer: Outcome,
+pub struct After<T> {
+    pub answer: Result<T, Refusal>,
     pub board: Board,
 }
 
@@ -73,11 +60,4 @@ pub struct Sending {
     pub own: u64,
     pub counter: u32,
     pub mark: u32,
-}
-
-// What sealing answers, and the board that it leaves.
-#[derive(Clone, Copy)]
-pub struct Sent {
-    pub answer: Sealed,
-    pub board: Board,
 }

@@ -30,7 +30,7 @@ fn with_mark(board: Board, mark: u32) -> Board
 
 // The second request: the store now holds that mark. Only if it is the next one is it the board's;
 // any other is 14.
-pub fn move_mark(board: Board, stored: u32) -> After
+pub fn move_mark(board: Board, stored: u32) -> After<()>
     ensures { changed (told result.answer) result.board ≡ move_mark board stored }
 {
     if stored == next_mark(board) {

@@ -8,7 +8,7 @@ ghost use Rattle.board.specs.Requests.{changed, link_of, free_link, added, add_n
 
 use crate::places::{did, refuse};
 use crate::state::{no_link, with_link};
-use crate::{After, Board, Link, Place};
+use crate::{After, Board, Link};
 use answers::Refusal;
 
 fn pairs_with(l: Link, partner: u64) -> bool
@@ -18,32 +18,32 @@ fn pairs_with(l: Link, partner: u64) -> bool
 }
 
 // The lowest present entry for that partner.
-pub fn link_of(links: [Link; 8], partner: u64) -> Place
+pub fn link_of(links: [Link; 8], partner: u64) -> Option<usize>
     ensures { result ≡ link_of links partner }
 {
     for i in 0..8 {
         let l = links[i];
         if pairs_with(l, partner) {
-            return Place::At(i);
+            return Some(i);
         }
     }
-    Place::Absent
+    None
 }
 
-fn free_link(links: [Link; 8]) -> Place
+fn free_link(links: [Link; 8]) -> Option<usize>
     ensures { result ≡ free_link links }
 {
     for i in 0..8 {
         let l = links[i];
         if !l.present {
-            return Place::At(i);
+            return Some(i);
         }
     }
-    Place::Absent
+    None
 }
 
 // A partner's new key, floor 0, in entry i.
-fn put_link(board: Board, i: usize, partner: u64, key: [u8; 16]) -> After
+fn put_link(board: Board, i: usize, partner: u64, key: [u8; 16]) -> After<()>
     requires { i < 8 }
     ensures { changed (told result.answer) result.board ≡ changed done (with_link board i (added partner (the_key key))) }
 {
@@ -56,13 +56,13 @@ fn put_link(board: Board, i: usize, partner: u64, key: [u8; 16]) -> After
     did(with_link(board, i, l))
 }
 
-fn add_new(board: Board, partner: u64, key: [u8; 16]) -> After
+fn add_new(board: Board, partner: u64, key: [u8; 16]) -> After<()>
     ensures { changed (told result.answer) result.board ≡ add_new board partner (the_key key) (free_link board.links) }
 {
     let links = board.links;
     match free_link(links) {
-        Place::At(i) => put_link(board, i, partner, key),
-        Place::Absent => refuse(Refusal::Full, board),
+        Some(i) => put_link(board, i, partner, key),
+        None => refuse(Refusal::Full, board),
     }
 }
 
@@ -74,9 +74,9 @@ fn has_key(l: Link, key: [u8; 16]) -> bool
 }
 
 // A key for a partner who has one in entry i.
-fn add_again(board: Board, i: usize, partner: u64, key: [u8; 16]) -> After
+fn add_again(board: Board, i: usize, partner: u64, key: [u8; 16]) -> After<()>
     requires { i < 8 }
-    ensures { changed (told result.answer) result.board ≡ add_to board partner (the_key key) (Place.At i) }
+    ensures { changed (told result.answer) result.board ≡ add_to board partner (the_key key) (Some i) }
 {
     let l = board.links[i];
     if has_key(l, key) {
@@ -87,7 +87,7 @@ fn add_again(board: Board, i: usize, partner: u64, key: [u8; 16]) -> After
 
 // Adds a link key: the same again changes nothing, another replaces it with floor 0, a new partner
 // takes the lowest free entry (none: 10). A partner zero or all ones is 14.
-pub fn add_link(board: Board, partner: u64, key: [u8; 16]) -> After
+pub fn add_link(board: Board, partner: u64, key: [u8; 16]) -> After<()>
     ensures { changed (told result.answer) result.board ≡ add_link board partner (the_key key) }
 {
     if octets::no_address(partner) {
@@ -95,13 +95,13 @@ pub fn add_link(board: Board, partner: u64, key: [u8; 16]) -> After
     }
     let links = board.links;
     match link_of(links, partner) {
-        Place::At(i) => add_again(board, i, partner, key),
-        Place::Absent => add_new(board, partner, key),
+        Some(i) => add_again(board, i, partner, key),
+        None => add_new(board, partner, key),
     }
 }
 
 // Removes a partner's link key: its entry is zeroed; 13 where there is none.
-pub fn remove_link(board: Board, partner: u64) -> After
+pub fn remove_link(board: Board, partner: u64) -> After<()>
     ensures { changed (told result.answer) result.board ≡ remove_link board partner }
 {
     if partner == 0 {
@@ -109,7 +109,7 @@ pub fn remove_link(board: Board, partner: u64) -> After
     }
     let links = board.links;
     match link_of(links, partner) {
-        Place::At(i) => did(with_link(board, i, no_link())),
-        Place::Absent => refuse(Refusal::Absent, board),
+        Some(i) => did(with_link(board, i, no_link())),
+        None => refuse(Refusal::Absent, board),
     }
 }

@@ -4,22 +4,22 @@ ghost use Rattle.answers.specs.Numbers.{told, done, refused, number_of};
 ghost use Rattle.board.specs.Requests.{changed};
 
 use crate::{After, Board};
-use answers::{Outcome, Refusal};
+use answers::Refusal;
 
-pub(crate) fn did(board: Board) -> After
+pub(crate) fn did(board: Board) -> After<()>
     ensures { changed (told result.answer) result.board ≡ changed done board }
 {
     After {
-        answer: Outcome::Done,
+        answer: Ok(()),
         board,
     }
 }
 
-pub(crate) fn refuse(why: Refusal, board: Board) -> After
+pub(crate) fn refuse(why: Refusal, board: Board) -> After<()>
     ensures { changed (told result.answer) result.board ≡ changed (refused (number_of why)) board }
 {
     After {
-        answer: Outcome::Refused(why),
+        answer: Err(why),
         board,
     }
 }

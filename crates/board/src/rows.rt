@@ -5,8 +5,7 @@ ghost use Rattle.board.specs.Rows.{lists, lists_fit, find_row, freed};
 ghost use Rattle.board.specs.Requests.{freeing};
 ghost use Rattle.board.specs.Requests.{forget};
 
-use crate::Place;
-use answers::{Outcome, Refusal};
+use answers::Refusal;
 use settings::{LONGEST_LIST, SHORTEST_LIST};
 
 // Whether both lists have one length, and that is even and from 2 to 1,024.
@@ -27,21 +26,21 @@ pub fn lists_fit(addrs: &[u64], floors: &[u32]) -> bool
 }
 
 // The lowest of the n rows from place from on, so far as the list has them, with that address.
-pub fn find_row(addrs: &[u64], from: usize, n: usize, address: u64) -> Place
+pub fn find_row(addrs: &[u64], from: usize, n: usize, address: u64) -> Option<usize>
     ensures { result ≡ find_row addrs.now from n address }
 {
     if addrs.len() <= from {
-        return Place::Absent;
+        return None;
     }
     let end = from + least(n, addrs.len() - from);
     let mut i = from;
     while i < end {
         if addrs[i] == address {
-            return Place::At(i);
+            return Some(i);
         }
         i = i + 1;
     }
-    Place::Absent
+    None
 }
 
 fn least(n: usize, m: usize) -> usize
@@ -105,25 +104,30 @@ pub(crate) fn free_rows(addrs: &mut [u64], floors: &mut [u32], from: usize, n: u
 
 // Forgets a sender of a slot: its row is freed. 1 where the lists don't fit, 14 for a slot above 1,
 // 13 where the sender is not there.
-pub fn forget(addrs: &mut [u64], floors: &mut [u32], slot: usize, sender: u64) -> Outcome
+pub fn forget(
+    addrs: &mut [u64],
+    floors: &mut [u32],
+    slot: usize,
+    sender: u64,
+) -> Result<(), Refusal>
     ensures { freeing (told result) (lists addrs.new floors.new) ≡ forget (lists addrs.old floors.old) slot sender }
 {
     let fit = lists_fit(addrs, floors);
     if !fit {
-        return Outcome::Refused(Refusal::Room);
+        return Err(Refusal::Room);
     }
     let rows = addrs.len() / 2;
     if 1 < slot {
-        return Outcome::Refused(Refusal::Argument);
+        return Err(Refusal::Argument);
     }
     if sender == 0 {
-        return Outcome::Refused(Refusal::Absent);
+        return Err(Refusal::Absent);
     }
     match find_row(addrs, slot * rows, rows, sender) {
-        Place::At(r) => {
+        Some(r) => {
             put_row(addrs, floors, r, 0, 0);
-            Outcome::Done
+            Ok(())
         }
-        Place::Absent => Outcome::Refused(Refusal::Absent),
+        None => Err(Refusal::Absent),
     }
 }

@@ -6,7 +6,7 @@ ghost use Rattle.board.specs.Requests.{changed};
 ghost use Rattle.board.specs.Requests.{make};
 
 use crate::places::{did, refuse};
-use crate::{Active, After, Board, Link, Slot};
+use crate::{After, Board, Link, Slot};
 use answers::Refusal;
 
 pub(crate) fn no_link() -> Link
@@ -37,14 +37,14 @@ fn fresh_board(own: u64, found: u32) -> Board
         mark: found,
         aps: 0,
         slots,
-        active: Active::Nobody,
+        active: None,
         links,
     }
 }
 
 // A fresh board with that address, which starts at the mark that it finds in the host's store, 0 on a
 // new one. An address of zero or all ones is 14, with a board without address.
-pub fn make(own: u64, found: u32) -> After
+pub fn make(own: u64, found: u32) -> After<()>
     ensures { changed (told result.answer) result.board ≡ make own found }
 {
     if octets::no_address(own) {
@@ -83,7 +83,7 @@ pub(crate) fn with_active(board: Board, i: usize) -> Board
         mark: board.mark,
         aps: board.aps,
         slots,
-        active: Active::Slot(i),
+        active: Some(i),
         links,
     }
 }

@@ -1,6 +1,6 @@
 -- What the list and the judgement tell of sizes: the parts of a frame that is sound lie inside it.
 -- Assumes nothing.
-use Rattle.std.proofs.Common.{◌≡◌, ℕ, zero, suc, ◌+◌, ◌-◌, ◌≤◌, Bool, not, ltb, List, [], ◌∷◌, length, take, drop, sym, refl, ap, ◌∙◌, subst, le_refl, arith, length-drop, length-take, take_all, take-take, drop-drop, ltb-false}
+use Rattle.std.proofs.Common.{◌≡◌, ℕ, zero, suc, ◌+◌, ◌-◌, ◌≤◌, Bool, not, ltb, List, [], ◌∷◌, length, take, drop, sym, refl, ap, ◌∙◌, subst, le_refl, arith, length-drop, length-take, take_all, take-take, drop-drop, ltb-false, Option, Some, None}
 use Rattle.octets.proofs.Choices.{choose}
 use Rattle.octets.specs.Lists.{at}
 use Rattle.answers.specs.Numbers.{ProtectionTold}
@@ -12,8 +12,6 @@ use Rattle.tlvs.specs.declared.Wanted.TheVariants.{Tag}
 use Rattle.tlvs.specs.Looking.{walked}
 use Rattle.commands.specs.declared.Kind.{Kind}
 use Rattle.commands.specs.declared.Kind.TheVariants.{Transport1, Transport4, Transport2, Transport3, Update, Remove, Request2, Request4, Switch, Tunnel, Verify, Confirm, Down, Up}
-use Rattle.commands.specs.declared.Listed.{Listed}
-use Rattle.commands.specs.declared.Listed.TheVariants.{Reserved, Is}
 use Rattle.commands.specs.declared.Secret.{Secret}
 use Rattle.commands.specs.declared.Secret.TheVariants.{NoSecret, Key, Hash}
 use Rattle.commands.specs.declared.Rest.{Rest}
@@ -88,10 +86,10 @@ module _ (z : Settings) (f : List ℕ) (p : ProtectionTold) where
       λ _. choose (Sized f) (not (allows (rule_of k).under p)) (refused 12) (sound k) (λ _. omega arith)
       (λ _. ltb-false (length f) (2 + (rule_of k).size) e)
 
-  listed-sized : (l : Listed) → Sized f (judge_listed z f p l)
+  listed-sized : (l : Option Kind) → Sized f (judge_listed z f p l)
   unfolding judge_listed
-  listed-sized Reserved = omega arith
-  listed-sized (Is k) = kind-sized k
+  listed-sized None = omega arith
+  listed-sized (Some k) = kind-sized k
 
   header-sized : (r : PlainReading) → Sized f (judge_header z f p r)
   unfolding judge_header

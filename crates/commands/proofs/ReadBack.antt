@@ -1,6 +1,6 @@
 -- Reading what was written gives the command and its parts back, under a protection that the list allows.
 -- Assumes nothing.
-use Rattle.std.proofs.Common.{◌≡◌, ℕ, ◌+◌, ◌^◌, ◌≤◌, Bool, true, false, not, eqb, ltb, List, [], ◌∷◌, ◌++◌, length, take, drop, sym, refl, ap, ◌∙◌, subst, ap₂, zero-add, arith, length-append, length-take, drop-drop, take_at, drop_at, ltb-false, ltb-true, le-ltb, eqb-true}
+use Rattle.std.proofs.Common.{◌≡◌, ℕ, ◌+◌, ◌^◌, ◌≤◌, Bool, true, false, not, eqb, ltb, List, [], ◌∷◌, ◌++◌, length, take, drop, sym, refl, ap, ◌∙◌, subst, ap₂, zero-add, arith, length-append, length-take, drop-drop, take_at, drop_at, ltb-false, ltb-true, le-ltb, eqb-true, Some}
 use borrow.Author.Tests.{not-false}
 use Rattle.octets.proofs.Choices.{both-parts, choose}
 use Rattle.octets.proofs.Numbers.{least-spelled}
@@ -22,7 +22,6 @@ use Rattle.commands.specs.declared.Allowed.TheVariants.{Clear, Only, ClearOr}
 use Rattle.commands.specs.declared.Command.{Command}
 use Rattle.commands.specs.declared.Command.TheVariants.{TransportKey, UpdateDevice, RemoveDevice, RequestKey, SwitchKey, Tunnel, VerifyKey, ConfirmKey, RelayDownstream, RelayUpstream}
 use Rattle.commands.specs.declared.Kind.{Kind}
-use Rattle.commands.specs.declared.Listed.TheVariants.{Is}
 use Rattle.commands.specs.declared.Span.{Span}
 use Rattle.commands.specs.declared.Secret.{Secret}
 use Rattle.commands.specs.declared.Secret.TheVariants.{NoSecret, Key, Hash}
@@ -88,7 +87,7 @@ command-header f false e h = simp (le-ltb (length f) 1 (omega arith), e, le-ltb 
 
 -- ---- identifier and type
 
-listed-own : (c : Command) (k r : List ℕ) → listed (at (own_octets c k ++ r) 0) (at (own_octets c k ++ r) 1) ≡ Is (kind_of c)
+listed-own : (c : Command) (k r : List ℕ) → listed (at (own_octets c k ++ r) 0) (at (own_octets c k ++ r) 1) ≡ Some (kind_of c)
 unfolding own_octets listed transport_of request_of
 listed-own (TransportKey (transports.Network q d s)) k r = refl
 listed-own (TransportKey (transports.TrustCentre d s)) k r = refl

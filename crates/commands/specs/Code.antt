@@ -1,16 +1,14 @@
 -- Of the code: what contracts of private functions name. Nothing here need be believed: every callable routine's contract is
 -- stated without it.
 -- Assumes nothing.
-use Rattle.std.specs.Prelude.{ℕ, List, take}
+use Rattle.std.specs.Prelude.{ℕ, List, take, Result, Ok, Err}
 use Rattle.answers.specs.Numbers.{number_of}
-use Rattle.commands.specs.declared.Judged.{Judged}
-use Rattle.commands.specs.declared.Judged.TheVariants.{Refused, Sound}
 use Rattle.commands.specs.declared.Line.{Line}
 use Rattle.commands.specs.Reading.{Judgement, refused, sound}
 
-abbrev pub told_judged : Judged → Judgement
-told_judged (Refused r) = refused (number_of r)
-told_judged (Sound k) = sound k
+abbrev pub told_judged : Result Kind Refusal → Judgement
+told_judged (Err r) = refused (number_of r)
+told_judged (Ok k) = sound k
 
 -- the octets of a line
 unfoldable pub lined : Line → List ℕ

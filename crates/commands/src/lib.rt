@@ -8,7 +8,7 @@ mod reader;
 mod table;
 mod writer;
 
-use answers::{Refusal, Written};
+use answers::{Refusal};
 use board::Board;
 pub use parts::{hash_of, inner_of, key_of, tlvs_of, value_of};
 pub use reader::read_command;
@@ -66,7 +66,7 @@ pub enum Reading {
 // What the writer answers, and the board that it leaves.
 #[derive(Clone, Copy)]
 pub struct Wrote {
-    pub answer: Written,
+    pub answer: Result<usize, Refusal>,
     pub board: Board,
 }
 

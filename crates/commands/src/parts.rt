@@ -9,8 +9,7 @@ ghost use Rattle.commands.specs.Code.{told_judged};
 ghost use Rattle.commands.specs.Parts.{cut_at, key_in, hash_in, key_span, hash_span, rest_span, tlvs_in, inner_in, tlvs_span, inner_span, value_span};
 ghost use Rattle.commands.specs.Parts.{nowhere};
 
-use crate::{Judged, Rest, Secret, Span, reader, table};
-use answers::Guard;
+use crate::{Rest, Secret, Span, reader, table};
 use tlvs::Walked;
 
 fn nowhere() -> Span
@@ -51,12 +50,12 @@ fn hash_in(s: Secret) -> Span
     }
 }
 
-fn key_span(v: Judged) -> Span
+fn key_span(v: Result<Kind, Refusal>) -> Span
     ensures { result ≡ key_span (told_judged v) }
 {
     match v {
-        Judged::Refused(_) => nowhere(),
-        Judged::Sound(k) => {
+        Err(_) => nowhere(),
+        Ok(k) => {
             let rule = table::rule_of(k);
             let s = rule.secret;
             key_in(s)
@@ -64,12 +63,12 @@ fn key_span(v: Judged) -> Span
     }
 }
 
-fn hash_span(v: Judged) -> Span
+fn hash_span(v: Result<Kind, Refusal>) -> Span
     ensures { result ≡ hash_span (told_judged v) }
 {
     match v {
-        Judged::Refused(_) => nowhere(),
-        Judged::Sound(k) => {
+        Err(_) => nowhere(),
+        Ok(k) => {
             let rule = table::rule_of(k);
             let s = rule.secret;
             hash_in(s)
@@ -112,12 +111,12 @@ fn inner_in(rest: Rest, span: Span) -> Span
     }
 }
 
-fn tlvs_span(n: usize, v: Judged) -> Span
+fn tlvs_span(n: usize, v: Result<Kind, Refusal>) -> Span
     ensures { result ≡ tlvs_span n (told_judged v) }
 {
     match v {
-        Judged::Refused(_) => nowhere(),
-        Judged::Sound(k) => {
+        Err(_) => nowhere(),
+        Ok(k) => {
             let rule = table::rule_of(k);
             let rest = rule.rest;
             tlvs_in(rest, rest_span(n, 2 + rule.size))
@@ -125,12 +124,12 @@ fn tlvs_span(n: usize, v: Judged) -> Span
     }
 }
 
-fn inner_span(n: usize, v: Judged) -> Span
+fn inner_span(n: usize, v: Result<Kind, Refusal>) -> Span
     ensures { result ≡ inner_span n (told_judged v) }
 {
     match v {
-        Judged::Refused(_) => nowhere(),
-        Judged::Sound(k) => {
+        Err(_) => nowhere(),
+        Ok(k) => {
             let rule = table::rule_of(k);
             let rest = rule.rest;
             inner_in(rest, rest_span(n, 2 + rule.size))
@@ -156,21 +155,21 @@ fn value_span(f: &[u8], tag: u8, span: Span) -> Span
 }
 
 // The key of a Transport-Key.
-pub fn key_of(frame: &[u8], protection: Guard) -> &[u8]
+pub fn key_of(frame: &[u8], protection: Option<u8>) -> &[u8]
     ensures { seen result ≡ cut_at frame.entry (key_span (judge ours frame.now (protection_of protection))) }
 {
     part_of(frame, key_span(reader::judge_frame(frame, protection)))
 }
 
 // The hash of a Verify-Key.
-pub fn hash_of(frame: &[u8], protection: Guard) -> &[u8]
+pub fn hash_of(frame: &[u8], protection: Option<u8>) -> &[u8]
     ensures { seen result ≡ cut_at frame.entry (hash_span (judge ours frame.now (protection_of protection))) }
 {
     part_of(frame, hash_span(reader::judge_frame(frame, protection)))
 }
 
 // The frame inside a Tunnel.
-pub fn inner_of(frame: &[u8], protection: Guard) -> &[u8]
+pub fn inner_of(frame: &[u8], protection: Option<u8>) -> &[u8]
     ensures { seen result ≡ cut_at frame.entry (inner_span (length frame.now) (judge ours frame.now (protection_of protection))) }
 {
     part_of(
@@ -180,7 +179,7 @@ pub fn inner_of(frame: &[u8], protection: Guard) -> &[u8]
 }
 
 // All TLVs of a command.
-pub fn tlvs_of(frame: &[u8], protection: Guard) -> &[u8]
+pub fn tlvs_of(frame: &[u8], protection: Option<u8>) -> &[u8]
     ensures { seen result ≡ cut_at frame.entry (tlvs_span (length frame.now) (judge ours frame.now (protection_of protection))) }
 {
     part_of(
@@ -190,7 +189,7 @@ pub fn tlvs_of(frame: &[u8], protection: Guard) -> &[u8]
 }
 
 // The value of the first TLV of that tag.
-pub fn value_of(frame: &[u8], protection: Guard, tag: u8) -> &[u8]
+pub fn value_of(frame: &[u8], protection: Option<u8>, tag: u8) -> &[u8]
     ensures { seen result ≡ cut_at frame.entry (value_span frame.now tag (tlvs_span (length frame.now) (judge ours frame.now (protection_of protection)))) }
 {
     part_of(

@@ -6,7 +6,6 @@ ghost use Rattle.commands.specs.Table.{rule_of, known, allows, fits, secret_size
 ghost use Rattle.commands.specs.Table.{row};
 
 use crate::{Allowed, Kind, Rest, Rule, Secret};
-use answers::Guard;
 
 // The octets of the least frame inside a Tunnel: header, auxiliary header, one octet and the tag.
 const LEAST_INNER: usize = 2 + settings::APS_AUX + 1 + settings::TAG;
@@ -43,12 +42,12 @@ pub(crate) fn rule_of(k: Kind) -> Rule
     }
 }
 
-pub(crate) fn is_known(p: Guard) -> bool
+pub(crate) fn is_known(p: Option<u8>) -> bool
     ensures { result ≡ known (protection_of p) }
 {
     match p {
-        Guard::Clear => true,
-        Guard::Under(n) => match n {
+        None => true,
+        Some(n) => match n {
             0 => true,
             1 => false,
             2 => true,
@@ -58,21 +57,21 @@ pub(crate) fn is_known(p: Guard) -> bool
     }
 }
 
-pub(crate) fn is_allowed(u: Allowed, p: Guard) -> bool
+pub(crate) fn is_allowed(u: Allowed, p: Option<u8>) -> bool
     ensures { result ≡ allows u (protection_of p) }
 {
     match u {
         Allowed::Clear => match p {
-            Guard::Clear => true,
-            Guard::Under(_) => false,
+            None => true,
+            Some(_) => false,
         },
         Allowed::Only(n) => match p {
-            Guard::Clear => false,
-            Guard::Under(m) => m == n,
+            None => false,
+            Some(m) => m == n,
         },
         Allowed::ClearOr(n) => match p {
-            Guard::Clear => true,
-            Guard::Under(m) => m == n,
+            None => true,
+            Some(m) => m == n,
         },
     }
 }

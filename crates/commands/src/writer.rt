@@ -11,7 +11,7 @@ ghost use Rattle.commands.specs.Writing.{command_control, own_octets, whole, aps
 ghost use Rattle.commands.specs.Code.{lined};
 
 use crate::{Command, Line, Requested, Rule, Transported, Wrote, kinds, table};
-use answers::{Refusal, Written};
+use answers::{Refusal};
 use board::Board;
 
 // What a header of two octets leaves of the longest frame.
@@ -159,7 +159,7 @@ fn refuse(why: Refusal, board: Board) -> Wrote
     ensures { (told_written result.answer ≡ turned_down (number_of why)) × (result.board ≡ board) }
 {
     Wrote {
-        answer: Written::Refused(why),
+        answer: Err(why),
         board,
     }
 }
@@ -191,7 +191,7 @@ pub fn write_command(
     let next = aps_raised(board);
     let n = lay(command_control(ack), board.aps, own, rest, out);
     Wrote {
-        answer: Written::Frame(n),
+        answer: Ok(n),
         board: next,
     }
 }

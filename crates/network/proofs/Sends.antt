@@ -1,5 +1,6 @@
 -- Sealing under a slot's key, of what its calls answered.
 -- Assumes nothing.
+use Rattle.std.proofs.Common.{Option, Some}
 use mathlib.Core.Path.{◌≡◌, sym, ap, ◌∙◌}
 use mathlib.Core.List.{List}
 use Prim.Native.Nat.{ℕ, ◌≤◌}
@@ -19,8 +20,6 @@ use Rattle.board.specs.declared.Sending.{Sending}
 use Rattle.board.specs.declared.Slot.{Slot}
 use Rattle.board.specs.Sending.{raised, with_outgoing, spent, framed, sending_of, may_send, send}
 use Rattle.board.proofs.Sends.{send-refused, send-done}
-use Rattle.seals.specs.declared.Enclosed.{Enclosed}
-use Rattle.seals.specs.declared.Enclosed.TheVariants.{Octets}
 use Rattle.seals.specs.Sealing.{Fair, sent_octets, sealed_frame, sealing, told_enclosed}
 use Rattle.seals.proofs.Securing.{Sealable, sealed-length}
 use Rattle.seals.proofs.Tells.{sealed-tells}
@@ -44,7 +43,7 @@ module _ (z : Settings) (n : Sending) (s : Slot) (f : List ℕ) (h : ℕ) (o : L
   pub refused-slot : (m : ℕ) → may_send n ≡ refused m → (b : Board) → sending_of b ≡ n → framed (turned_down m) b o ≡ sealed_under z b f o h s
   refused-slot m q b e = send-refused n b e frame o m q ∙ sends b e
 
-  pub sealed-slot : Sealable z identifier f h → longest ≤ length o → may_send n ≡ done → (w : Enclosed) (m : ℕ) (p : List ℕ) → w ≡ Octets m
+  pub sealed-slot : Sealable z identifier f h → longest ≤ length o → may_send n ≡ done → (w : Option ℕ) (m : ℕ) (p : List ℕ) → w ≡ Some m
       → product (told_enclosed w) p ≡ sealing z (the_key s.key) Network identifier n.counter n.own s.seq f h o
       → (b : Board) → sending_of b ≡ n → framed (sealed m) (with_outgoing b (raised b.outgoing)) p ≡ sealed_under z b f o h s
   unfolding spent

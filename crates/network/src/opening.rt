@@ -10,10 +10,9 @@ ghost use Rattle.seals.specs.Sealing.{message_of, sound};
 ghost use Rattle.network.specs.Opening.{Lent, lent, leaving, row_of, admitted, opened_under, opened_keyed, open_network};
 ghost use Rattle.network.specs.Code.{opened_heard};
 
-use answers::{Guard, Opened, Refusal};
-use board::{Board, Place, Slot};
+use answers::{Opened, Refusal};
+use board::{Board, Slot};
 use frames::{Layer, Read, Secured};
-use seals::Unsealed;
 use settings::{LONGEST, TOP};
 
 // A frame for which there is a row: the tag is judged before the row is touched.
@@ -25,30 +24,30 @@ fn admit(
     addrs: &mut [u64],
     floors: &mut [u32],
     out: &mut [u8],
-) -> Opened
+) -> Result<Opened, Refusal>
     requires s_value { (sound ours f.now s ≡ true) × ((longest ≤ length out.old) × (s.counter < top)) }
     requires r_in_bounds { (r < length addrs.old) × (r < length floors.old) }
-    ensures { leaving (told_opened result) (lent addrs.new floors.new out.new) ≡ admitted f.now s (lent addrs.old floors.old out.old) (message_of ours (the_key key) f.now s) (Place.At r) }
+    ensures { leaving (told_opened result) (lent addrs.new floors.new out.new) ≡ admitted f.now s (lent addrs.old floors.old out.old) (message_of ours (the_key key) f.now s) (Some r) }
 {
     match seals::unseal(key, Layer::Network, f, s, out) {
-        Unsealed::Plain(n) => {
+        Some(n) => {
             addrs[r] = s.sender;
             floors[r] = s.counter + 1;
-            Opened::Frame(n, s.sender, Guard::Under(1))
+            Opened::Frame(n, s.sender, Some(1))
         }
-        Unsealed::Forged => Opened::Refused(Refusal::Forged),
+        None => Err(Refusal::Forged),
     }
 }
 
 // A frame for which there is no row: 9 comes before 10.
-fn turn_away(key: [u8; 16], f: &[u8], s: Secured) -> Opened
+fn turn_away(key: [u8; 16], f: &[u8], s: Secured) -> Result<Opened, Refusal>
     requires { sound ours f.now s ≡ true }
-    ensures { (w : Lent) → leaving (told_opened result) w ≡ admitted f.now s w (message_of ours (the_key key) f.now s) Place.Absent }
+    ensures { (w : Lent) → leaving (told_opened result) w ≡ admitted f.now s w (message_of ours (the_key key) f.now s) None }
 {
     if seals::look(key, f, s) {
-        return Opened::Refused(Refusal::Full);
+        return Err(Refusal::Full);
     }
-    Opened::Refused(Refusal::Forged)
+    Err(Refusal::Forged)
 }
 
 // A sender that has row r.
@@ -60,13 +59,13 @@ fn open_heard(
     addrs: &mut [u64],
     floors: &mut [u32],
     out: &mut [u8],
-) -> Opened
+) -> Result<Opened, Refusal>
     requires s_value { (sound ours f.now s ≡ true) × ((longest ≤ length out.old) × (s.counter < top)) }
     requires r_in_bounds { (r < length addrs.old) × (r < length floors.old) }
     ensures { leaving (told_opened result) (lent addrs.new floors.new out.new) ≡ opened_heard ours (the_key key) r f.now s (lent addrs.old floors.old out.old) }
 {
     if s.counter < floors[r] {
-        return Opened::Refused(Refusal::Stale);
+        return Err(Refusal::Stale);
     }
     admit(key, r, f, s, addrs, floors, out)
 }
@@ -81,14 +80,14 @@ fn open_new(
     addrs: &mut [u64],
     floors: &mut [u32],
     out: &mut [u8],
-) -> Opened
+) -> Result<Opened, Refusal>
     requires s_value { (sound ours f.now s ≡ true) × ((longest ≤ length out.old) × (s.counter < top)) }
     requires i_bound { (i < 2) × (length addrs.old ≡ length floors.old) }
     ensures { leaving (told_opened result) (lent addrs.new floors.new out.new) ≡ admitted f.now s (lent addrs.old floors.old out.old) (message_of ours (the_key key) f.now s) (row_of rows (lists addrs.old floors.old) i 0) }
 {
     match board::find_row(addrs, i * rows, rows, 0) {
-        Place::At(r) => admit(key, r, f, s, addrs, floors, out),
-        Place::Absent => turn_away(key, f, s),
+        Some(r) => admit(key, r, f, s, addrs, floors, out),
+        None => turn_away(key, f, s),
     }
 }
 
@@ -101,17 +100,17 @@ fn open_under(
     addrs: &mut [u64],
     floors: &mut [u32],
     out: &mut [u8],
-) -> Opened
+) -> Result<Opened, Refusal>
     requires s_value { (sound ours f.now s ≡ true) × (longest ≤ length out.old) }
     requires i_bound { (i < 2) × (length addrs.old ≡ length floors.old) }
     ensures { leaving (told_opened result) (lent addrs.new floors.new out.new) ≡ opened_under ours rows (the_key key) i f.now s (lent addrs.old floors.old out.old) }
 {
     if s.counter == TOP {
-        return Opened::Refused(Refusal::Top);
+        return Err(Refusal::Top);
     }
     match board::find_row(addrs, i * rows, rows, s.sender) {
-        Place::At(r) => open_heard(key, r, f, s, addrs, floors, out),
-        Place::Absent => open_new(rows, key, i, f, s, addrs, floors, out),
+        Some(r) => open_heard(key, r, f, s, addrs, floors, out),
+        None => open_new(rows, key, i, f, s, addrs, floors, out),
     }
 }
 
@@ -123,17 +122,17 @@ fn open_keyed(
     addrs: &mut [u64],
     floors: &mut [u32],
     out: &mut [u8],
-) -> Opened
+) -> Result<Opened, Refusal>
     requires { (sound ours f.now s ≡ true) × ((longest ≤ length out.old) × (length addrs.old ≡ length floors.old)) }
     ensures { leaving (told_opened result) (lent addrs.new floors.new out.new) ≡ opened_keyed ours rows slots f.now s (lent addrs.old floors.old out.old) (slot_of slots s.sequence) }
 {
     match board::slot_of(slots, s.sequence) {
-        Place::At(i) => {
+        Some(i) => {
             let slot = slots[i];
             let key = slot.key;
             open_under(rows, key, i, f, s, addrs, floors, out)
         }
-        Place::Absent => Opened::Refused(Refusal::NoKey),
+        None => Err(Refusal::NoKey),
     }
 }
 
@@ -145,26 +144,26 @@ pub fn open_frame(
     addrs: &mut [u64],
     floors: &mut [u32],
     out: &mut [u8],
-) -> Opened
+) -> Result<Opened, Refusal>
     ensures { leaving (told_opened result) (lent addrs.new floors.new out.new) ≡ open_network ours board frame.now (lent addrs.old floors.old out.old) }
 {
     if out.len() < LONGEST {
-        return Opened::Refused(Refusal::Room);
+        return Err(Refusal::Room);
     }
     if !board::lists_fit(addrs, floors) {
-        return Opened::Refused(Refusal::Room);
+        return Err(Refusal::Room);
     }
     let rows = addrs.len() / 2;
     if LONGEST < frame.len() {
-        return Opened::Refused(Refusal::Long);
+        return Err(Refusal::Long);
     }
     match frames::read_frame(Layer::Network, frame, 0) {
-        Read::Refused(r) => Opened::Refused(r),
-        Read::Plain(_) => {
+        Err(r) => Err(r),
+        Ok(Read::Plain(_)) => {
             octets::paste_at(out, 0, frame);
-            Opened::Frame(frame.len(), 0, Guard::Clear)
+            Opened::Frame(frame.len(), 0, None)
         }
-        Read::Secured(s) => {
+        Ok(Read::Secured(s)) => {
             let slots = board.slots;
             open_keyed(rows, slots, frame, s, addrs, floors, out)
         }

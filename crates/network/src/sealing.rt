@@ -6,25 +6,24 @@ ghost use Rattle.answers.specs.Numbers.{told_sealed};
 ghost use Rattle.board.specs.Sending.{with_outgoing, counter_after, framed, sending_of};
 ghost use Rattle.network.specs.Sealing.{sealed_under, sealed_by, seal_network};
 
-use answers::{Outcome, Refusal, Sealed};
-use board::{Active, Board, Sending, Sent, Slot};
-use frames::{Layer, PlainRead};
-use seals::Enclosed;
+use answers::{Refusal};
+use board::{Board, Sending, Sent, Slot};
+use frames::{Layer};
 use settings::{LONGEST, LONGEST_PLAIN};
 
-fn seal_under(sending: Sending, s: Slot, f: &[u8], h: usize, out: &mut [u8]) -> Sealed
+fn seal_under(sending: Sending, s: Slot, f: &[u8], h: usize, out: &mut [u8]) -> Result<usize, Refusal>
     requires { ((2 ≤ h) × (h ≤ length f.now)) × ((length f.now ≤ longest_plain ours) × (longest ≤ length out.old)) }
     ensures { (b : Board) → sending_of b ≡ sending → framed (told_sealed result) (with_outgoing b (counter_after (told_sealed result) b.outgoing)) out.new ≡ sealed_under ours b f.now out.old h s }
 {
     match board::may_send(sending) {
-        Outcome::Refused(r) => Sealed::Refused(r),
-        Outcome::Done => {
+        Err(r) => Err(r),
+        Ok(()) => {
             let key = s.key;
             let counter = sending.counter;
             let own = sending.own;
             match seals::seal(key, Layer::Network, 1, counter, own, s.seq, f, h, out) {
-                Enclosed::Octets(n) => Sealed::Frame(n),
-                Enclosed::Nothing => Sealed::Refused(Refusal::Room),
+                Some(n) => Ok(n),
+                None => Err(Refusal::Room),
             }
         }
     }
@@ -37,49 +36,49 @@ fn seal_active(
     f: &[u8],
     h: usize,
     out: &mut [u8],
-) -> Sealed
+) -> Result<usize, Refusal>
     requires { ((2 ≤ h) × (h ≤ length f.now)) × ((length f.now ≤ longest_plain ours) × (longest ≤ length out.old)) }
-    ensures { (b : Board) → b.slots ≡ slots → sending_of b ≡ sending → framed (told_sealed result) (with_outgoing b (counter_after (told_sealed result) b.outgoing)) out.new ≡ sealed_by ours b f.now out.old h (Active.Slot i) }
+    ensures { (b : Board) → b.slots ≡ slots → sending_of b ≡ sending → framed (told_sealed result) (with_outgoing b (counter_after (told_sealed result) b.outgoing)) out.new ≡ sealed_by ours b f.now out.old h (Some i) }
 {
     if 1 < i {
-        return Sealed::Refused(Refusal::NoKey);
+        return Err(Refusal::NoKey);
     }
     let s = slots[i];
     if !s.present {
-        return Sealed::Refused(Refusal::NoKey);
+        return Err(Refusal::NoKey);
     }
     seal_under(sending, s, f, h, out)
 }
 
 fn seal_by(
     slots: [Slot; 2],
-    active: Active,
+    active: Option<usize>,
     sending: Sending,
     f: &[u8],
     h: usize,
     out: &mut [u8],
-) -> Sealed
+) -> Result<usize, Refusal>
     requires { ((2 ≤ h) × (h ≤ length f.now)) × ((length f.now ≤ longest_plain ours) × (longest ≤ length out.old)) }
     ensures { (b : Board) → b.slots ≡ slots → sending_of b ≡ sending → framed (told_sealed result) (with_outgoing b (counter_after (told_sealed result) b.outgoing)) out.new ≡ sealed_by ours b f.now out.old h active }
 {
     match active {
-        Active::Nobody => Sealed::Refused(Refusal::NoKey),
-        Active::Slot(i) => seal_active(slots, i, sending, f, h, out),
+        None => Err(Refusal::NoKey),
+        Some(i) => seal_active(slots, i, sending, f, h, out),
     }
 }
 
-fn seal_read(slots: [Slot; 2], active: Active, sending: Sending, f: &[u8], out: &mut [u8]) -> Sealed
+fn seal_read(slots: [Slot; 2], active: Option<usize>, sending: Sending, f: &[u8], out: &mut [u8]) -> Result<usize, Refusal>
     ensures { (b : Board) → b.slots ≡ slots → b.active ≡ active → sending_of b ≡ sending → framed (told_sealed result) (with_outgoing b (counter_after (told_sealed result) b.outgoing)) out.new ≡ seal_network ours b f.now out.old }
 {
     if out.len() < LONGEST {
-        return Sealed::Refused(Refusal::Room);
+        return Err(Refusal::Room);
     }
     if LONGEST_PLAIN < f.len() {
-        return Sealed::Refused(Refusal::Long);
+        return Err(Refusal::Long);
     }
     match frames::read_plain(Layer::Network, f) {
-        PlainRead::Refused(r) => Sealed::Refused(r),
-        PlainRead::Header(h) => seal_by(slots, active, sending, f, h, out),
+        Err(r) => Err(r),
+        Ok(h) => seal_by(slots, active, sending, f, h, out),
     }
 }
 

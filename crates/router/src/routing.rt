@@ -9,39 +9,39 @@ ghost use Rattle.commands.specs.Parts.{cut_at};
 ghost use Rattle.commands.specs.Table.{least_inner};
 ghost use Rattle.router.specs.Routing.{told_routed, tunnel_to, route, start_of, size_of, portion_span};
 
-use crate::{Portion, Routed};
-use answers::{Guard, Refusal};
-use commands::{Command, Reading};
+use crate::{Portion};
+use answers::{Refusal};
+use commands::{Command};
 
 // The octets of the inner header: an inner frame is a command.
 const HEADER: usize = 2;
 
 // Another command than Tunnel goes nowhere.
-fn tunnel_to(c: Command) -> Routed
+fn tunnel_to(c: Command) -> Result<u64, Refusal>
     ensures { told_routed result ≡ tunnel_to (told_command c) }
 {
     match c {
-        Command::TransportKey(_) => Routed::Refused(Refusal::Command),
-        Command::UpdateDevice(_, _, _) => Routed::Refused(Refusal::Command),
-        Command::RemoveDevice(_) => Routed::Refused(Refusal::Command),
-        Command::RequestKey(_) => Routed::Refused(Refusal::Command),
-        Command::SwitchKey(_) => Routed::Refused(Refusal::Command),
-        Command::Tunnel(a) => Routed::Onward(a),
-        Command::VerifyKey(_, _) => Routed::Refused(Refusal::Command),
-        Command::ConfirmKey(_, _, _) => Routed::Refused(Refusal::Command),
-        Command::RelayDownstream => Routed::Refused(Refusal::Command),
-        Command::RelayUpstream => Routed::Refused(Refusal::Command),
+        Command::TransportKey(_) => Err(Refusal::Command),
+        Command::UpdateDevice(_, _, _) => Err(Refusal::Command),
+        Command::RemoveDevice(_) => Err(Refusal::Command),
+        Command::RequestKey(_) => Err(Refusal::Command),
+        Command::SwitchKey(_) => Err(Refusal::Command),
+        Command::Tunnel(a) => Ok(a),
+        Command::VerifyKey(_, _) => Err(Refusal::Command),
+        Command::ConfirmKey(_, _, _) => Err(Refusal::Command),
+        Command::RelayDownstream => Err(Refusal::Command),
+        Command::RelayUpstream => Err(Refusal::Command),
     }
 }
 
 // Where the frame inside a plain APS frame that came under that protection goes: the destination of
 // a Tunnel, else why it goes nowhere. It is lent nothing that it could change.
-pub fn route(frame: &[u8], protection: Guard) -> Routed
+pub fn route(frame: &[u8], protection: Option<u8>) -> Result<u64, Refusal>
     ensures { told_routed result ≡ route ours frame.now (protection_of protection) }
 {
     match commands::read_command(frame, protection) {
-        Reading::Command(c) => tunnel_to(c),
-        Reading::Refused(r) => Routed::Refused(r),
+        Ok(c) => tunnel_to(c),
+        Err(r) => Err(r),
     }
 }
 
@@ -73,7 +73,7 @@ fn end_of(portion: Portion, n: usize) -> usize
 
 // The inner frame of that frame, or a portion of it; empty if the router refuses the frame. Joined,
 // header, auxiliary header, payload and tag are the inner frame (`four-joined`, `calls-joined`).
-pub fn portion_of(frame: &[u8], protection: Guard, portion: Portion) -> &[u8]
+pub fn portion_of(frame: &[u8], protection: Option<u8>, portion: Portion) -> &[u8]
     ensures { seen result ≡ cut_at frame.entry (portion_span ours portion frame.now (protection_of protection)) }
 {
     let inner = commands::inner_of(frame, protection);

@@ -9,7 +9,6 @@ ghost use Rattle.cipher.specs.Answers.{sealing as cipher_sealing};
 ghost use Rattle.seals.specs.Sealing.{sound, sent_octets, told_unsealed, told_enclosed, unsealing, looking, sealable};
 ghost use Rattle.seals.specs.Sealing.{sealing as seals_sealing};
 
-use cipher::Answer;
 use frames::{Layer, Secured};
 
 // The length of the plain frame that was made; or 9, tag wrong. So are told, too, a frame that is
@@ -56,14 +55,14 @@ pub fn unseal(
     frame: &[u8],
     secured: Secured,
     out: &mut [u8],
-) -> Unsealed
+) -> Option<usize>
     ensures { product (told_unsealed result) out.new ≡ unsealing ours (the_key key) layer frame.now secured out.old }
 {
     if !is_sound(frame, secured) {
-        return Unsealed::Forged;
+        return None;
     }
     if out.len() < settings::LONGEST {
-        return Unsealed::Forged;
+        return None;
     }
     unseal_sound(key, layer, frame, secured, out)
 }
@@ -85,7 +84,7 @@ fn unseal_body(
     cipher::unseal(settings::TAG, key, nonce, a, &f[n..], &mut out[h..])
 }
 
-fn unseal_sound(key: [u8; 16], l: Layer, f: &[u8], s: Secured, out: &mut [u8]) -> Unsealed
+fn unseal_sound(key: [u8; 16], l: Layer, f: &[u8], s: Secured, out: &mut [u8]) -> Option<usize>
     requires { (sound ours f.now s ≡ true) × (longest ≤ length out.old) }
     ensures { product (told_unsealed result) out.new ≡ unsealing ours (the_key key) l f.now s out.old }
 {
@@ -95,11 +94,11 @@ fn unseal_sound(key: [u8; 16], l: Layer, f: &[u8], s: Secured, out: &mut [u8]) -
     frames::lay_authenticated(&mut a, f, h, n);
     let nonce = frames::nonce(s.sender, s.counter, s.control);
     match unseal_body(key, nonce, &a[..n], f, n, h, out) {
-        Answer::Made(m) => {
+        Ok(m) => {
             frames::lay_plain_header(out, l, f, h);
-            Unsealed::Plain(h + m)
+            Some(h + m)
         }
-        Answer::Refused(_) => Unsealed::Forged,
+        Err(_) => None,
     }
 }
 
@@ -109,8 +108,8 @@ pub fn look(key: [u8; 16], frame: &[u8], secured: Secured) -> bool
 {
     let mut out = [0u8; settings::LONGEST];
     match unseal(key, Layer::Aps, frame, secured, &mut out) {
-        Unsealed::Plain(_) => true,
-        Unsealed::Forged => false,
+        Some(_) => true,
+        None => false,
     }
 }
 
@@ -153,17 +152,17 @@ pub fn seal(
     frame: &[u8],
     header: usize,
     out: &mut [u8],
-) -> Enclosed
+) -> Option<usize>
     ensures { product (told_enclosed result) out.new ≡ seals_sealing ours (the_key key) layer identifier counter sender sequence frame.now header out.old }
 {
     if 3 < identifier {
-        return Enclosed::Nothing;
+        return None;
     }
     if !is_sealable(identifier, frame, header) {
-        return Enclosed::Nothing;
+        return None;
     }
     if out.len() < settings::LONGEST {
-        return Enclosed::Nothing;
+        return None;
     }
     seal_sound(
         key, layer, identifier, counter, sender, sequence, frame, header, out,
@@ -181,7 +180,7 @@ fn seal_sound(
     f: &[u8],
     h: usize,
     out: &mut [u8],
-) -> Enclosed
+) -> Option<usize>
     requires { (identifier ≤ 3) × ((sealable ours identifier f.now h ≡ true) × (longest ≤ length out.old)) }
     ensures { product (told_enclosed result) out.new ≡ seals_sealing ours (the_key key) l identifier counter sender sequence f.now h out.old }
 {
@@ -192,8 +191,8 @@ fn seal_sound(
     frames::lay_authenticated(&mut a, out, h, n);
     let nonce = frames::nonce(sender, counter, frames::wire_control(identifier));
     match seal_body(key, nonce, &a[..n], f, h, n, out) {
-        Answer::Made(m) => Enclosed::Octets(n + m),
-        Answer::Refused(_) => Enclosed::Nothing,
+        Ok(m) => Some(n + m),
+        Err(_) => None,
     }
 }
 

@@ -9,16 +9,16 @@ use Rattle.seals.proofs.Looked.{looked, is_made}
 use Rattle.frames.specs.declared.Layer.TheVariants.{Aps}
 use Rattle.seals.proofs.look.Goals as goal
 
-pub returns-in-Plain : goal.returns-in-Plain
-returns-in-Plain c =
+pub returns-in-Some : goal.returns-in-Some
+returns-in-Some c =
     let y = c.args in
-    ap (λ r. is_made (told_unsealed r)) (sym c.in-Plain.is)
+    ap (λ r. is_made (told_unsealed r)) (sym c.in-Some.is)
     ∙ looked ours (the_key y.key) Aps y.frame.now y.secured (replicate longest 0) (omega arith)
     c.unseal.result _ c.unseal.ensures
 
-pub returns-in-Forged : goal.returns-in-Forged
-returns-in-Forged c =
+pub returns-in-None : goal.returns-in-None
+returns-in-None c =
     let y = c.args in
-    ap (λ r. is_made (told_unsealed r)) (sym c.in-Forged.is)
+    ap (λ r. is_made (told_unsealed r)) (sym c.in-None.is)
     ∙ looked ours (the_key y.key) Aps y.frame.now y.secured (replicate longest 0) (omega arith)
     c.unseal.result _ c.unseal.ensures

@@ -35,10 +35,10 @@ overflow_add-result c =
     c.sent_octets.ensures.0 c.lay_secured_header.ensures
     c.lay_auxiliary.ensures refl c.lay_authenticated.ensures
     c.wire_control.ensures c.nonce-nonce.ensures c.seal_body.ensures.out_after c.seal_body.ensures.out_unchanged in
-    omega (arith, after-length there c.in-Made.m c.in-Made.is, there.wide)
+    omega (arith, after-length there c.in-Ok.m c.in-Ok.is, there.wide)
 
-pub returns-in-Made : goal.returns-in-Made
-returns-in-Made c =
+pub returns-in-Ok : goal.returns-in-Ok
+returns-in-Ok c =
     let y = c.args in
     let t = sealable-tells ours _ _ _ c.requires.1.0 in
     let there = sealed-by ours (the_key y.key) y.l y.identifier y.counter y.sender y.sequence y.f.now y.h y.out.now
@@ -46,10 +46,10 @@ returns-in-Made c =
     c.sent_octets.ensures.0 c.lay_secured_header.ensures
     c.lay_auxiliary.ensures refl c.lay_authenticated.ensures
     c.wire_control.ensures c.nonce-nonce.ensures c.seal_body.ensures.out_after c.seal_body.ensures.out_unchanged in
-    after-made there c.in-Made.m c.in-Made.is
+    after-made there c.in-Ok.m c.in-Ok.is
 
-pub returns-in-Refused : goal.returns-in-Refused
-returns-in-Refused c =
+pub returns-in-Err : goal.returns-in-Err
+returns-in-Err c =
     let y = c.args in
     let t = sealable-tells ours _ _ _ c.requires.1.0 in
     let there = sealed-by ours (the_key y.key) y.l y.identifier y.counter y.sender y.sequence y.f.now y.h y.out.now
@@ -57,4 +57,4 @@ returns-in-Refused c =
     c.sent_octets.ensures.0 c.lay_secured_header.ensures
     c.lay_auxiliary.ensures refl c.lay_authenticated.ensures
     c.wire_control.ensures c.nonce-nonce.ensures c.seal_body.ensures.out_after c.seal_body.ensures.out_unchanged in
-    after-not there _ c.in-Refused.is
+    after-not there _ c.in-Err.is

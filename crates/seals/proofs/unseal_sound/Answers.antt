@@ -39,10 +39,10 @@ overflow_add-result c =
           (replicate longest 0) _ _ refl
           c.lay_authenticated.ensures c.nonce-nonce.ensures;
     } in
-    omega (arith, after-length ours-fair there c.args.l c.in-Made.m c.in-Made.is)
+    omega (arith, after-length ours-fair there c.args.l c.in-Ok.m c.in-Ok.is)
 
-pub returns-in-Made : goal.returns-in-Made
-returns-in-Made c =
+pub returns-in-Ok : goal.returns-in-Ok
+returns-in-Ok c =
     let y = c.args in
     let t = sound-tells ours _ _ c.requires.0 in
     let there : Unseals ours (the_key y.key) y.f.now y.s y.out.now c.unseal_body.result c.unseal_body.new.out = record {
@@ -54,10 +54,10 @@ returns-in-Made c =
           (replicate longest 0) _ _ refl
           c.lay_authenticated.ensures c.nonce-nonce.ensures;
     } in
-    after-made ours-fair there c.args.l c.in-Made.m _ c.in-Made.is c.unseal_body.auto.out c.lay_plain_header.ensures
+    after-made ours-fair there c.args.l c.in-Ok.m _ c.in-Ok.is c.unseal_body.auto.out c.lay_plain_header.ensures
 
-pub returns-in-Refused : goal.returns-in-Refused
-returns-in-Refused c =
+pub returns-in-Err : goal.returns-in-Err
+returns-in-Err c =
     let y = c.args in
     let t = sound-tells ours _ _ c.requires.0 in
     let there : Unseals ours (the_key y.key) y.f.now y.s y.out.now c.unseal_body.result c.unseal_body.new.out = record {
@@ -69,4 +69,4 @@ returns-in-Refused c =
           (replicate longest 0) _ _ refl
           c.lay_authenticated.ensures c.nonce-nonce.ensures;
     } in
-    after-not ours-fair there c.args.l _ c.in-Refused.is c.unseal_body.ensures.out_unchanged
+    after-not ours-fair there c.args.l _ c.in-Err.is c.unseal_body.ensures.out_unchanged

@@ -9,9 +9,9 @@ pub returns-then-frame-gt-LONGEST_APS : goal.returns-then-frame-gt-LONGEST_APS
 unfolding look_aps
 returns-then-frame-gt-LONGEST_APS c = simp (lt-ltb _ _ c.if-frame-gt-LONGEST_APS.true)
 
-pub returns-in-Refused : goal.returns-in-Refused
+pub returns-in-Err : goal.returns-in-Err
 unfolding look_aps looked_read
-returns-in-Refused c = simp (le-ltb _ _ c.if-frame-gt-LONGEST_APS.false, sym c.read_frame.ensures ∙ ap told_read c.in-Refused.is)
+returns-in-Err c = simp (le-ltb _ _ c.if-frame-gt-LONGEST_APS.false, sym c.read_frame.ensures ∙ ap told_read c.in-Err.is)
 
 pub returns-in-Plain : goal.returns-in-Plain
 unfolding look_aps looked_read

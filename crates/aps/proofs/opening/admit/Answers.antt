@@ -8,24 +8,24 @@ use Rattle.aps.specs.Opening.{admitted}
 use Rattle.aps.proofs.Admission.{stays, admit-plain, admit-forged, moves-none, moves-this}
 use Rattle.aps.proofs.opening.admit.Goals as goal
 
-pub returns-in-Plain : goal.returns-in-Plain
-returns-in-Plain c =
+pub returns-in-Some : goal.returns-in-Some
+returns-in-Some c =
     let y = c.args in
     record {
-      out_after = λ b el. admit-plain ours ours-fair _ y.f.now y.s y.out.now y.i c.requires.0 c.requires.1.0 _ c.in-Plain.n
-          _ _ y.l c.in-Plain.is c.unseal.ensures c.identifier.ensures b el ∙ ap
+      out_after = λ b el. admit-plain ours ours-fair _ y.f.now y.s y.out.now y.i c.requires.0 c.requires.1.0 _ c.in-Some.n
+          _ _ y.l c.in-Some.is c.unseal.ensures c.identifier.ensures b el ∙ ap
           (λ (k : Key). admitted b y.f.now y.s y.out.now y.i (message_of ours k y.f.now y.s))
           c.key_named.ensures;
       by_index = moves-this c.requires.1.1.1;
     }
 
-pub returns-in-Forged : goal.returns-in-Forged
-returns-in-Forged c =
+pub returns-in-None : goal.returns-in-None
+returns-in-None c =
     let y = c.args in
     record {
       out_after = λ b el. stays _ _ _ c.unmoved.ensures.0 c.unmoved.ensures.1 b
           ∙ admit-forged ours ours-fair _ y.f.now y.s y.out.now y.i c.requires.0 c.requires.1.0 _ _
-          c.in-Forged.is c.unseal.ensures b ∙ ap
+          c.in-None.is c.unseal.ensures b ∙ ap
           (λ (k : Key). admitted b y.f.now y.s y.out.now y.i (message_of ours k y.f.now y.s))
           c.key_named.ensures;
       by_index = moves-none c.unmoved.ensures.1;

@@ -36,17 +36,17 @@ open_keyed-requires c = (
   c.if-out-lt-LONGEST.false,
 )
 
-pub returns-in-Refused : goal.returns-in-Refused
+pub returns-in-Err : goal.returns-in-Err
 unfolding open_aps opened_read
-returns-in-Refused c =
+returns-in-Err c =
     record {
       out_after = λ b el. simp (
         le-ltb _ _ c.if-out-lt-LONGEST.false,
         le-ltb _ _ c.if-f-gt-LONGEST_APS.false,
-        sym c.read_frame.ensures ∙ ap told_read c.in-Refused.is,
+        sym c.read_frame.ensures ∙ ap told_read c.in-Err.is,
       )
-          (stays _ _ _ c.unmoved-in-Refused.ensures.0 c.unmoved-in-Refused.ensures.1 b);
-      by_index = moves-none c.unmoved-in-Refused.ensures.1;
+          (stays _ _ _ c.unmoved-in-Err.ensures.0 c.unmoved-in-Err.ensures.1 b);
+      by_index = moves-none c.unmoved-in-Err.ensures.1;
     }
 
 pub returns-in-Plain : goal.returns-in-Plain

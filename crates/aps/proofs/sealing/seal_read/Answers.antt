@@ -20,23 +20,23 @@ returns-then-not-is_named c =
     λ b el es. simp (
       le-ltb _ _ c.if-out-lt-LONGEST.false,
       le-ltb _ _ c.if-f-gt-LONGEST_APS_PLAIN.false,
-      sym c.read_plain.ensures ∙ ap told_plain c.in-Header.is,
+      sym c.read_plain.ensures ∙ ap told_plain c.in-Ok.is,
       sym c.is_named.ensures ∙ c.if-not-is_named.true,
     )
 
 pub seal_for-requires : goal.seal_for-requires
 seal_for-requires c = (
-  plain-bounds c.args.f.now _ (sym c.read_plain.ensures ∙ ap told_plain c.in-Header.is),
+  plain-bounds c.args.f.now _ (sym c.read_plain.ensures ∙ ap told_plain c.in-Ok.is),
   (c.if-f-gt-LONGEST_APS_PLAIN.false, (c.if-out-lt-LONGEST.false, sym c.is_named.ensures ∙ c.if-not-is_named.false)),
 )
 
-pub returns-in-Refused : goal.returns-in-Refused
+pub returns-in-Err : goal.returns-in-Err
 unfolding seal_aps sealed_read
-returns-in-Refused c =
+returns-in-Err c =
     λ b el es. simp (
       le-ltb _ _ c.if-out-lt-LONGEST.false,
       le-ltb _ _ c.if-f-gt-LONGEST_APS_PLAIN.false,
-      sym c.read_plain.ensures ∙ ap told_plain c.in-Refused.is,
+      sym c.read_plain.ensures ∙ ap told_plain c.in-Err.is,
     )
 
 pub returns-else-not-is_named : goal.returns-else-not-is_named
@@ -45,7 +45,7 @@ returns-else-not-is_named c =
     λ b el es. simp (
       le-ltb _ _ c.if-out-lt-LONGEST.false,
       le-ltb _ _ c.if-f-gt-LONGEST_APS_PLAIN.false,
-      sym c.read_plain.ensures ∙ ap told_plain c.in-Header.is,
+      sym c.read_plain.ensures ∙ ap told_plain c.in-Ok.is,
       sym c.is_named.ensures ∙ c.if-not-is_named.false,
     )
     (c.seal_for.ensures b el es)

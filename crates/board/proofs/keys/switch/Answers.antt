@@ -3,10 +3,10 @@ use mathlib.Core.Path.{sym}
 use Rattle.board.specs.Requests.{switch}
 use Rattle.board.proofs.keys.switch.Goals as goal
 
-pub returns-in-At : goal.returns-in-At
+pub returns-in-Some : goal.returns-in-Some
 unfolding switch
-returns-in-At c = simp (sym c.in-At.ensures, ← c.with_active.ensures) c.did.ensures
+returns-in-Some c = simp (sym c.in-Some.ensures, ← c.with_active.ensures) c.did.ensures
 
-pub returns-in-Absent : goal.returns-in-Absent
+pub returns-in-None : goal.returns-in-None
 unfolding switch
-returns-in-Absent c = simp (sym c.in-Absent.ensures) c.refuse.ensures
+returns-in-None c = simp (sym c.in-None.ensures) c.refuse.ensures

@@ -9,19 +9,19 @@ unfolding add_link
 returns-then-no_address c = simp (sym c.no_address.ensures ∙ c.if-no_address.true) c.refuse.ensures
 
 pub add_again-requires : goal.add_again-requires
-add_again-requires c = link-place _ _ _ (sym c.in-At.ensures)
+add_again-requires c = link-place _ _ _ (sym c.in-Some.ensures)
 
-pub returns-in-At : goal.returns-in-At
+pub returns-in-Some : goal.returns-in-Some
 unfolding add_link
-returns-in-At c =
-    simp (sym c.no_address.ensures ∙ c.if-no_address.false, sym c.in-At.ensures)
+returns-in-Some c =
+    simp (sym c.no_address.ensures ∙ c.if-no_address.false, sym c.in-Some.ensures)
     c.add_again.ensures
 
-pub returns-in-Absent : goal.returns-in-Absent
+pub returns-in-None : goal.returns-in-None
 unfolding add_link
-returns-in-Absent c =
+returns-in-None c =
     simp (
       sym c.no_address.ensures ∙ c.if-no_address.false,
-      sym c.in-Absent.ensures,
+      sym c.in-None.ensures,
     )
     c.add_new.ensures

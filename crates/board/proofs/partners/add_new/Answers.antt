@@ -4,10 +4,10 @@ use Rattle.board.proofs.Found.{free-place}
 use Rattle.board.proofs.partners.add_new.Goals as goal
 
 pub put_link-requires : goal.put_link-requires
-put_link-requires c = free-place _ _ (sym c.in-At.ensures)
+put_link-requires c = free-place _ _ (sym c.in-Some.ensures)
 
-pub returns-in-At : goal.returns-in-At
-returns-in-At c = simp (sym c.in-At.ensures) c.put_link.ensures
+pub returns-in-Some : goal.returns-in-Some
+returns-in-Some c = simp (sym c.in-Some.ensures) c.put_link.ensures
 
-pub returns-in-Absent : goal.returns-in-Absent
-returns-in-Absent c = simp (sym c.in-Absent.ensures) c.refuse.ensures
+pub returns-in-None : goal.returns-in-None
+returns-in-None c = simp (sym c.in-None.ensures) c.refuse.ensures

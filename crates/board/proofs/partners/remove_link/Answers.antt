@@ -10,19 +10,19 @@ unfolding remove_link
 returns-then-partner-eq0 c = simp (eq-eqb _ _ c.if-partner-eq0.true) c.refuse.ensures
 
 pub with_link-requires : goal.with_link-requires
-with_link-requires c = link-place _ _ _ (sym c.in-At.ensures)
+with_link-requires c = link-place _ _ _ (sym c.in-Some.ensures)
 
-pub returns-in-At : goal.returns-in-At
+pub returns-in-Some : goal.returns-in-Some
 unfolding remove_link
-returns-in-At c =
+returns-in-Some c =
     simp (
       ne_eqb _ _ c.if-partner-eq0.false,
-      sym c.in-At.ensures,
+      sym c.in-Some.ensures,
       ← c.with_link.ensures,
       ← c.no_link.ensures,
     )
     c.did.ensures
 
-pub returns-in-Absent : goal.returns-in-Absent
+pub returns-in-None : goal.returns-in-None
 unfolding remove_link
-returns-in-Absent c = simp (ne_eqb _ _ c.if-partner-eq0.false, sym c.in-Absent.ensures) c.refuse-in-Absent.ensures
+returns-in-None c = simp (ne_eqb _ _ c.if-partner-eq0.false, sym c.in-None.ensures) c.refuse-in-None.ensures

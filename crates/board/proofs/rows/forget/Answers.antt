@@ -30,24 +30,24 @@ overflow_mul-slot c =
     let low = slot-start (length c.args.addrs.now / 2) c.args.slot (omega (arith, c.if-slot-gt1.false)) in
     record { fits = omega (arith, low) }
 
-pub returns-in-At : goal.returns-in-At
+pub returns-in-Some : goal.returns-in-Some
 unfolding forget
-returns-in-At c =
+returns-in-Some c =
     simp (
       sym c.lists_fit-fit.ensures ∙ c.if-not-fit.false,
       le-ltb _ _ c.if-slot-gt1.false,
       ne_eqb _ _ c.if-sender-eq0.false,
-      sym c.in-At.ensures,
+      sym c.in-Some.ensures,
       c.put_row.ensures.addrs_after,
       c.put_row.ensures.floors_after,
     )
 
-pub returns-in-Absent : goal.returns-in-Absent
+pub returns-in-None : goal.returns-in-None
 unfolding forget
-returns-in-Absent c =
+returns-in-None c =
     simp (
       sym c.lists_fit-fit.ensures ∙ c.if-not-fit.false,
       le-ltb _ _ c.if-slot-gt1.false,
       ne_eqb _ _ c.if-sender-eq0.false,
-      sym c.in-Absent.ensures,
+      sym c.in-None.ensures,
     )

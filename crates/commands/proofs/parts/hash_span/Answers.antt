@@ -2,10 +2,10 @@
 use Rattle.commands.specs.Parts.{hash_span}
 use Rattle.commands.proofs.parts.hash_span.Goals as goal
 
-pub returns-in-Refused : goal.returns-in-Refused
+pub returns-in-Err : goal.returns-in-Err
 unfolding hash_span
-returns-in-Refused c = simp (c.nowhere.ensures, c.in-Refused.is)
+returns-in-Err c = simp (c.nowhere.ensures, c.in-Err.is)
 
-pub returns-in-Sound : goal.returns-in-Sound
+pub returns-in-Ok : goal.returns-in-Ok
 unfolding hash_span
-returns-in-Sound c = simp (c.hash_in.ensures, ← c.rule_of-rule.ensures, c.in-Sound.is)
+returns-in-Ok c = simp (c.hash_in.ensures, ← c.rule_of-rule.ensures, c.in-Ok.is)

@@ -6,12 +6,12 @@ use Rattle.commands.proofs.Bounds.{size-most}
 use Rattle.commands.proofs.parts.inner_span.Goals as goal
 
 pub overflow_add-rule : goal.overflow_add-rule
-overflow_add-rule c = omega (arith, size-most c.in-Sound.k, ap (λ (r : Rule). r.size) c.rule_of-rule.ensures)
+overflow_add-rule c = omega (arith, size-most c.in-Ok.k, ap (λ (r : Rule). r.size) c.rule_of-rule.ensures)
 
-pub returns-in-Refused : goal.returns-in-Refused
+pub returns-in-Err : goal.returns-in-Err
 unfolding inner_span
-returns-in-Refused c = simp (c.nowhere.ensures, c.in-Refused.is)
+returns-in-Err c = simp (c.nowhere.ensures, c.in-Err.is)
 
-pub returns-in-Sound : goal.returns-in-Sound
+pub returns-in-Ok : goal.returns-in-Ok
 unfolding inner_span
-returns-in-Sound c = simp (c.inner_in.ensures, ← c.rest_span.ensures, ← c.rule_of-rule.ensures, c.in-Sound.is)
+returns-in-Ok c = simp (c.inner_in.ensures, ← c.rest_span.ensures, ← c.rule_of-rule.ensures, c.in-Ok.is)

@@ -12,21 +12,21 @@ pub returns-then-f-gt-LONGEST_APS : goal.returns-then-f-gt-LONGEST_APS
 unfolding judge judge_header
 returns-then-f-gt-LONGEST_APS c = simp (lt-ltb _ _ c.if-f-gt-LONGEST_APS.true, sym c.is_known.ensures ∙ c.if-not-is_known.false)
 
-pub returns-in-Refused : goal.returns-in-Refused
+pub returns-in-Err : goal.returns-in-Err
 unfolding judge judge_header
-returns-in-Refused c =
+returns-in-Err c =
     simp (
-      sym c.read_command.ensures ∙ ap told_plain c.in-Refused.is,
+      sym c.read_command.ensures ∙ ap told_plain c.in-Err.is,
       le-ltb _ _ c.if-f-gt-LONGEST_APS.false,
       sym c.is_known.ensures ∙ c.if-not-is_known.false,
     )
 
-pub returns-in-Header : goal.returns-in-Header
+pub returns-in-Ok : goal.returns-in-Ok
 unfolding judge judge_header
-returns-in-Header c =
+returns-in-Ok c =
     simp (
       c.judge_listed.ensures,
-      sym c.read_command.ensures ∙ ap told_plain c.in-Header.is,
+      sym c.read_command.ensures ∙ ap told_plain c.in-Ok.is,
       le-ltb _ _ c.if-f-gt-LONGEST_APS.false,
       sym c.is_known.ensures ∙ c.if-not-is_known.false,
     )

@@ -3,21 +3,21 @@ use Rattle.std.proofs.Common.{sym}
 use Rattle.commands.specs.Reading.{judge_listed}
 use Rattle.commands.proofs.reader.judge_listed.Goals as goal
 
-pub returns-in-Reserved : goal.returns-in-Reserved
+pub returns-in-None : goal.returns-in-None
 unfolding judge_listed
-returns-in-Reserved c =
+returns-in-None c =
     simp (
-      sym c.in-Reserved.ensures,
+      sym c.in-None.ensures,
       ← c.octet-2.ensures,
       ← c.octet.ensures,
     )
 
-pub returns-in-Is : goal.returns-in-Is
+pub returns-in-Some : goal.returns-in-Some
 unfolding judge_listed
-returns-in-Is c =
+returns-in-Some c =
     simp (
       c.judge_kind.ensures,
-      sym c.in-Is.ensures,
+      sym c.in-Some.ensures,
       ← c.octet-2.ensures,
       ← c.octet.ensures,
     )

@@ -4,10 +4,10 @@ use Rattle.commands.specs.Reading.{read_command}
 use Rattle.commands.specs.Code.{told_judged}
 use Rattle.commands.proofs.reader.read_command.Goals as goal
 
-pub returns-in-Refused : goal.returns-in-Refused
+pub returns-in-Err : goal.returns-in-Err
 unfolding read_command
-returns-in-Refused c = simp (sym c.judge_frame.ensures ∙ ap told_judged c.in-Refused.is)
+returns-in-Err c = simp (sym c.judge_frame.ensures ∙ ap told_judged c.in-Err.is)
 
-pub returns-in-Sound : goal.returns-in-Sound
+pub returns-in-Ok : goal.returns-in-Ok
 unfolding read_command
-returns-in-Sound c = simp (c.fields_of.ensures, sym c.judge_frame.ensures ∙ ap told_judged c.in-Sound.is)
+returns-in-Ok c = simp (c.fields_of.ensures, sym c.judge_frame.ensures ∙ ap told_judged c.in-Ok.is)

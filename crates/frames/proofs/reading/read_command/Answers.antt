@@ -8,13 +8,13 @@ use Rattle.frames.proofs.reading.read_command.Goals as goal
 
 pub returns-then-frame-h : goal.returns-then-frame-h
 unfolding reading_command aps_type
-returns-then-frame-h c = simp (sym c.read.ensures ∙ ap told_heading c.in-Octets.is, lt-ltb _ _ c.if-frame-h.true)
+returns-then-frame-h c = simp (sym c.read.ensures ∙ ap told_heading c.in-Ok.is, lt-ltb _ _ c.if-frame-h.true)
 
 pub returns-then-octet-ne1 : goal.returns-then-octet-ne1
 unfolding reading_command aps_type
 returns-then-octet-ne1 c =
     simp (
-      sym c.read.ensures ∙ ap told_heading c.in-Octets.is,
+      sym c.read.ensures ∙ ap told_heading c.in-Ok.is,
       le-ltb _ _ c.if-frame-h.false,
       ← c.octet.ensures,
       ne_eqb _ _ c.if-octet-ne1.true,
@@ -24,22 +24,22 @@ pub returns-then-secured : goal.returns-then-secured
 unfolding reading_command aps_type
 returns-then-secured c =
     simp (
-      sym c.read.ensures ∙ ap told_heading c.in-Octets.is,
+      sym c.read.ensures ∙ ap told_heading c.in-Ok.is,
       le-ltb _ _ c.if-frame-h.false,
       ← c.octet.ensures,
       eq-eqb _ _ c.if-octet-ne1.false,
       c.if-secured.true,
     )
 
-pub returns-in-Refused : goal.returns-in-Refused
+pub returns-in-Err : goal.returns-in-Err
 unfolding reading_command aps_type
-returns-in-Refused c = simp (sym c.read.ensures ∙ ap told_heading c.in-Refused.is)
+returns-in-Err c = simp (sym c.read.ensures ∙ ap told_heading c.in-Err.is)
 
 pub returns-else-secured : goal.returns-else-secured
 unfolding reading_command aps_type
 returns-else-secured c =
     simp (
-      sym c.read.ensures ∙ ap told_heading c.in-Octets.is,
+      sym c.read.ensures ∙ ap told_heading c.in-Ok.is,
       le-ltb _ _ c.if-frame-h.false,
       ← c.octet.ensures,
       eq-eqb _ _ c.if-octet-ne1.false,

@@ -8,16 +8,16 @@ pub returns-then-secured : goal.returns-then-secured
 unfolding reading
 returns-then-secured c =
     simp (
-      sym c.read_header.ensures ∙ ap told_heading c.in-Octets.is,
+      sym c.read_header.ensures ∙ ap told_heading c.in-Ok.is,
       c.if-secured.true,
       ← c.given_to.ensures,
     )
     c.secured_behind.ensures
 
-pub returns-in-Refused : goal.returns-in-Refused
+pub returns-in-Err : goal.returns-in-Err
 unfolding reading
-returns-in-Refused c = simp (sym c.read_header.ensures ∙ ap told_heading c.in-Refused.is)
+returns-in-Err c = simp (sym c.read_header.ensures ∙ ap told_heading c.in-Err.is)
 
 pub returns-else-secured : goal.returns-else-secured
 unfolding reading
-returns-else-secured c = simp (sym c.read_header.ensures ∙ ap told_heading c.in-Octets.is, c.if-secured.false) c.plain_behind.ensures
+returns-else-secured c = simp (sym c.read_header.ensures ∙ ap told_heading c.in-Ok.is, c.if-secured.false) c.plain_behind.ensures

@@ -9,9 +9,9 @@ pub returns-then-frame-gt-LONGEST : goal.returns-then-frame-gt-LONGEST
 unfolding look_network
 returns-then-frame-gt-LONGEST c = simp (lt-ltb _ _ c.if-frame-gt-LONGEST.true)
 
-pub returns-in-Refused : goal.returns-in-Refused
+pub returns-in-Err : goal.returns-in-Err
 unfolding look_network looked_read
-returns-in-Refused c = simp (le-ltb _ _ c.if-frame-gt-LONGEST.false, sym c.read_frame.ensures ∙ ap told_read c.in-Refused.is)
+returns-in-Err c = simp (le-ltb _ _ c.if-frame-gt-LONGEST.false, sym c.read_frame.ensures ∙ ap told_read c.in-Err.is)
 
 pub returns-in-Plain : goal.returns-in-Plain
 unfolding look_network looked_read

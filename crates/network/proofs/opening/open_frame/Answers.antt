@@ -34,14 +34,14 @@ open_keyed-requires c =
       (c.if-out-lt-LONGEST.false, long.0 ∙ sym long.1),
     )
 
-pub returns-in-Refused : goal.returns-in-Refused
+pub returns-in-Err : goal.returns-in-Err
 unfolding open_network opened_read
-returns-in-Refused c =
+returns-in-Err c =
     simp (
       (le-leb _ _ c.if-out-lt-LONGEST.false),
       (sym c.lists_fit.ensures ∙ c.if-not-lists_fit.false),
       (le-ltb _ _ c.if-frame-gt-LONGEST.false),
-      sym c.read_frame.ensures ∙ ap told_read c.in-Refused.is,
+      sym c.read_frame.ensures ∙ ap told_read c.in-Err.is,
     )
 
 pub returns-in-Plain : goal.returns-in-Plain

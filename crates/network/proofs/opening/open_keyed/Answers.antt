@@ -6,20 +6,20 @@ use Rattle.board.proofs.Found.{slot-place}
 use Rattle.network.proofs.opening.open_keyed.Goals as goal
 
 pub offset_bounds-slots-i : goal.offset_bounds-slots-i
-offset_bounds-slots-i c = let h = slot-place _ _ _ (sym c.in-At.ensures) in omega arith
+offset_bounds-slots-i c = let h = slot-place _ _ _ (sym c.in-Some.ensures) in omega arith
 
 pub bounds-slots-i : goal.bounds-slots-i
-bounds-slots-i c = slot-place _ _ _ (sym c.in-At.ensures)
+bounds-slots-i c = slot-place _ _ _ (sym c.in-Some.ensures)
 
 pub open_under-requires : goal.open_under-requires
 open_under-requires c =
-    let place = slot-place _ _ _ (sym c.in-At.ensures) in
+    let place = slot-place _ _ _ (sym c.in-Some.ensures) in
     record { s_value = (c.requires.0, c.requires.1.0); i_bound = (place, c.requires.1.1) }
 
-pub returns-in-At : goal.returns-in-At
+pub returns-in-Some : goal.returns-in-Some
 unfolding opened_keyed
-returns-in-At c = simp (sym c.in-At.ensures) c.open_under.ensures
+returns-in-Some c = simp (sym c.in-Some.ensures) c.open_under.ensures
 
-pub returns-in-Absent : goal.returns-in-Absent
+pub returns-in-None : goal.returns-in-None
 unfolding opened_keyed
-returns-in-Absent c = simp (sym c.in-Absent.ensures)
+returns-in-None c = simp (sym c.in-None.ensures)

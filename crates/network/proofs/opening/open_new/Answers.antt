@@ -10,11 +10,11 @@ overflow_mul-i c = record { fits = omega (arith, slot-start c.args.rows c.args.i
 
 pub admit-requires : goal.admit-requires
 admit-requires c =
-    let there = row-place _ _ _ _ _ (sym c.in-At.ensures) in
+    let there = row-place _ _ _ _ _ (sym c.in-Some.ensures) in
     record { s_value = c.requires.s_value; r_in_bounds = (there, omega (arith, there, c.requires.i_bound.1)) }
 
-pub returns-in-At : goal.returns-in-At
-returns-in-At c = simp (sym c.in-At.ensures) c.admit.ensures
+pub returns-in-Some : goal.returns-in-Some
+returns-in-Some c = simp (sym c.in-Some.ensures) c.admit.ensures
 
-pub returns-in-Absent : goal.returns-in-Absent
-returns-in-Absent c = simp (sym c.in-Absent.ensures) (c.turn_away.ensures _)
+pub returns-in-None : goal.returns-in-None
+returns-in-None c = simp (sym c.in-None.ensures) (c.turn_away.ensures _)

@@ -22,7 +22,7 @@ overflow_mul-i c = record { fits = omega (arith, slot-start c.args.rows c.args.i
 pub open_heard-requires : goal.open_heard-requires
 open_heard-requires c =
     let below : c.args.s.counter < top = search rules in
-    let there = row-place _ _ _ _ _ (sym c.in-At.ensures) in
+    let there = row-place _ _ _ _ _ (sym c.in-Some.ensures) in
     record {
       s_value = (c.requires.s_value.0, (c.requires.s_value.1, below));
       r_in_bounds = (there, omega (arith, there, c.requires.i_bound.1));
@@ -33,16 +33,16 @@ open_new-requires c =
     let below : c.args.s.counter < top = search rules in
     record { s_value = (c.requires.s_value.0, (c.requires.s_value.1, below)); i_bound = c.requires.i_bound }
 
-pub returns-in-At : goal.returns-in-At
-returns-in-At c =
+pub returns-in-Some : goal.returns-in-Some
+returns-in-Some c =
     let y = c.args in
     c.open_heard.ensures ∙ under-heard ours (the_key y.key) y.f.now y.s y.rows y.i
     (lent y.addrs.now y.floors.now y.out.now) c.if-s-eq-TOP.false _
-    (sym c.in-At.ensures)
+    (sym c.in-Some.ensures)
 
-pub returns-in-Absent : goal.returns-in-Absent
-returns-in-Absent c =
+pub returns-in-None : goal.returns-in-None
+returns-in-None c =
     let y = c.args in
     c.open_new.ensures ∙ under-new ours (the_key y.key) y.f.now y.s y.rows y.i
     (lent y.addrs.now y.floors.now y.out.now) c.if-s-eq-TOP.false
-    (sym c.in-Absent.ensures)
+    (sym c.in-None.ensures)

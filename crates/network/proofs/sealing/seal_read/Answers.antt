@@ -18,26 +18,26 @@ returns-then-f-gt-LONGEST_PLAIN c = λ b es ea en. simp (le-ltb _ _ c.if-out-lt-
 pub seal_by-requires : goal.seal_by-requires
 seal_by-requires c = (
   plain-bounds c.args.f.now _
-      (sym c.read_plain.ensures ∙ ap told_plain c.in-Header.is),
+      (sym c.read_plain.ensures ∙ ap told_plain c.in-Ok.is),
   (c.if-f-gt-LONGEST_PLAIN.false, c.if-out-lt-LONGEST.false),
 )
 
-pub returns-in-Refused : goal.returns-in-Refused
+pub returns-in-Err : goal.returns-in-Err
 unfolding seal_network sealed_read
-returns-in-Refused c =
+returns-in-Err c =
     λ b es ea en. simp (
       le-ltb _ _ c.if-out-lt-LONGEST.false,
       le-ltb _ _ c.if-f-gt-LONGEST_PLAIN.false,
-      sym c.read_plain.ensures ∙ ap told_plain c.in-Refused.is,
+      sym c.read_plain.ensures ∙ ap told_plain c.in-Err.is,
     )
 
-pub returns-in-Header : goal.returns-in-Header
+pub returns-in-Ok : goal.returns-in-Ok
 unfolding seal_network sealed_read
-returns-in-Header c =
+returns-in-Ok c =
     λ b es ea en. let y = c.args in
     simp (
       le-ltb _ _ c.if-out-lt-LONGEST.false,
       le-ltb _ _ c.if-f-gt-LONGEST_PLAIN.false,
-      sym c.read_plain.ensures ∙ ap told_plain c.in-Header.is,
+      sym c.read_plain.ensures ∙ ap told_plain c.in-Ok.is,
     )
-    (c.seal_by.ensures b es en ∙ ap (sealed_by ours b y.f.now y.out.now c.in-Header.h) (sym ea))
+    (c.seal_by.ensures b es en ∙ ap (sealed_by ours b y.f.now y.out.now c.in-Ok.h) (sym ea))

@@ -11,21 +11,21 @@ use Rattle.network.specs.Sealing.{identifier}
 use Rattle.network.proofs.Sends.{sealable-net, refused-slot, sealed-slot}
 use Rattle.network.proofs.sealing.seal_under.Goals as goal
 
-pub returns-in-Refused : goal.returns-in-Refused
-returns-in-Refused c =
+pub returns-in-Err : goal.returns-in-Err
+returns-in-Err c =
     let y = c.args in
     refused-slot ours y.sending y.s y.f.now y.h y.out.now _
-    (sym c.may_send.ensures ∙ ap told c.in-Refused.is)
+    (sym c.may_send.ensures ∙ ap told c.in-Err.is)
 
-pub returns-in-Octets : goal.returns-in-Octets
-returns-in-Octets c =
+pub returns-in-Some : goal.returns-in-Some
+returns-in-Some c =
     let y = c.args in
     sealed-slot ours y.sending y.s y.f.now y.h y.out.now ((sealable-net ours ours-fair c.args.f.now c.args.h c.requires.0.0 c.requires.0.1 c.requires.1.0)) c.requires.1.1
-    (sym c.may_send.ensures ∙ ap told c.in-Done.is) _ _ _ c.in-Octets.is
+    (sym c.may_send.ensures ∙ ap told c.in-Ok.is) _ _ _ c.in-Some.is
     c.seal.ensures
 
-pub returns-in-Nothing : goal.returns-in-Nothing
-returns-in-Nothing c =
+pub returns-in-None : goal.returns-in-None
+returns-in-None c =
     let y = c.args in
     never-nothing ours (the_key y.s.key) Network identifier y.sending.counter y.sending.own y.s.seq y.f.now y.h
-    y.out.now (omega arith) ((sealable-net ours ours-fair c.args.f.now c.args.h c.requires.0.0 c.requires.0.1 c.requires.1.0)) c.requires.1.1 _ _ c.in-Nothing.is c.seal.ensures
+    y.out.now (omega arith) ((sealable-net ours ours-fair c.args.f.now c.args.h c.requires.0.0 c.requires.0.1 c.requires.1.0)) c.requires.1.1 _ _ c.in-None.is c.seal.ensures

@@ -4,10 +4,10 @@ use Rattle.commands.specs.Reading.{told_reading}
 use Rattle.router.specs.Routing.{route_of, route}
 use Rattle.router.proofs.routing.route.Goals as goal
 
-pub returns-in-Command : goal.returns-in-Command
+pub returns-in-Ok : goal.returns-in-Ok
 unfolding route route_of
-returns-in-Command c = simp (sym c.read_command.ensures ∙ ap told_reading c.in-Command.is) c.tunnel_to.ensures
+returns-in-Ok c = simp (sym c.read_command.ensures ∙ ap told_reading c.in-Ok.is) c.tunnel_to.ensures
 
-pub returns-in-Refused : goal.returns-in-Refused
+pub returns-in-Err : goal.returns-in-Err
 unfolding route route_of
-returns-in-Refused c = simp (sym c.read_command.ensures ∙ ap told_reading c.in-Refused.is)
+returns-in-Err c = simp (sym c.read_command.ensures ∙ ap told_reading c.in-Err.is)
