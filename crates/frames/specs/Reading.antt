@@ -8,6 +8,7 @@ use Rattle.octets.specs.Addresses.{no_address}
 use Rattle.std.specs.Prelude.{if◌then◌else◌}
 use Rattle.octets.specs.Choice.{both}
 use Rattle.octets.specs.Lists.{at}
+use Rattle.answers.specs.declared.Refusal.{Refusal}
 use Rattle.answers.specs.Numbers.{number_of}
 use Rattle.frames.specs.declared.Layer.{Layer}
 use Rattle.frames.specs.declared.Layer.TheVariants.{Aps}
@@ -41,9 +42,9 @@ pub data Reading : Type 0 where
   secured : Secured → Reading
 
 abbrev pub told_read : Result Read Refusal → Reading
-told_read (reads.Refused r) = refused (number_of r)
-told_read (reads.Plain h) = plain h
-told_read (reads.Secured s) = secured s
+told_read (Ok (reads.Plain h)) = plain h
+told_read (Ok (reads.Secured s)) = secured s
+told_read (Err r) = refused (number_of r)
 
 -- what the auxiliary header behind h octets of header announces
 unfoldable pub announced : List ℕ → ℕ → ℕ → Secured

@@ -70,7 +70,10 @@ pub(crate) fn read(f: &[u8]) -> Result<Heading, Refusal>
     if !form(c) {
         return Err(Refusal::Form);
     }
-    Heading::Octets(header_length(c), is_secured(c))
+    Ok(Heading {
+        octets: header_length(c),
+        secured: is_secured(c),
+    })
 }
 
 pub(crate) fn is_keyed(identifier: u8) -> bool

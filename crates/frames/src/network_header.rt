@@ -62,7 +62,10 @@ pub(crate) fn read(f: &[u8]) -> Result<Heading, Refusal>
     if !form(c) {
         return Err(Refusal::Form);
     }
-    Heading::Octets(header_length(f, c), is_secured(c))
+    Ok(Heading {
+        octets: header_length(f, c),
+        secured: is_secured(c),
+    })
 }
 
 // Whether a key identifier and a nonce bit are the network layer's.

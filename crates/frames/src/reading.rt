@@ -90,52 +90,37 @@ fn plain_behind(f: &[u8], h: usize) -> Result<Read, Refusal>
 pub fn read_frame(layer: Layer, frame: &[u8], given: u64) -> Result<Read, Refusal>
     ensures { told_read result ≡ reading ours layer frame.now given }
 {
-    match read_header(layer, frame) {
-        Err(r) => Err(r),
-        Ok(Heading { octets: h, secured }) => {
-            if secured {
-                return secured_behind(layer, frame, h, given_to(layer, given));
-            }
-            plain_behind(frame, h)
-        }
+    let heading = read_header(layer, frame)?;
+    if heading.secured {
+        return secured_behind(layer, frame, heading.octets, given_to(layer, given));
     }
+    plain_behind(frame, heading.octets)
 }
 
 // A plain frame that is to be sealed.
 pub fn read_plain(layer: Layer, frame: &[u8]) -> Result<usize, Refusal>
     ensures { told_plain result ≡ reading_plain layer frame.now }
 {
-    match read_header(layer, frame) {
-        Err(r) => Err(r),
-        Ok(Heading { octets: h, secured }) => {
-            if secured {
-                return Err(Refusal::Form);
-            }
-            if frame.len() < h {
-                return Err(Refusal::Short);
-            }
-            Ok(h)
-        }
+    let heading = read_header(layer, frame)?;
+    if heading.secured {
+        return Err(Refusal::Form);
     }
+    if frame.len() < heading.octets {
+        return Err(Refusal::Short);
+    }
+    Ok(heading.octets)
 }
 
 // A plain APS frame whose command is to be read.
 pub fn read_command(frame: &[u8]) -> Result<usize, Refusal>
     ensures { told_plain result ≡ reading_command frame.now }
 {
-    match aps_header::read(frame) {
-        Err(r) => Err(r),
-        Ok(Heading { octets: h, secured }) => {
-            if frame.len() < h {
-                return Err(Refusal::Short);
-            }
-            if octets::octet(frame, 0) % 4 != 1 {
-                return Err(Refusal::Form);
-            }
-            if secured {
-                return Err(Refusal::Form);
-            }
-            Ok(h)
-        }
+    let heading = aps_header::read(frame)?;
+    if frame.len() < heading.octets {
+        return Err(Refusal::Short);
     }
+    if octets::octet(frame, 0) % 4 != 1 || heading.secured {
+        return Err(Refusal::Form);
+    }
+    Ok(heading.octets)
 }
