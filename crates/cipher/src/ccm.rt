@@ -7,9 +7,9 @@ ghost use Rattle.cipher.specs.Blocks.{two_octets, blocks, over};
 ghost use Rattle.cipher.specs.Ccm.{field, absorbed, mac_of, key_stream, streamed, ccm_seal, ccm_open, led};
 ghost use Rattle.cipher.specs.Answers.{tag_length, product, counted, opened_onto};
 
+use crate::Fault;
 use crate::aes::{add_blocks, encipher};
 use crate::blocks::{block_from, part_of, put_block};
-use crate::{Answer, Fault};
 
 // Whether M may be the length of a tag.
 pub(crate) fn tag_length(m: usize) -> bool
@@ -199,7 +199,7 @@ pub(crate) fn open_with(
     a: &[u8],
     c: &[u8],
     out: &mut [u8],
-) -> Answer
+) -> Result<usize, Fault>
     requires { (sb.now ≡ sbox_table) × ((m ≤ 16) × ((m ≤ length c.now) × ((length c.now ≤ 128 + m) × (length c.now - m ≤ length out.old)))) }
     ensures { product (counted result) out.new ≡ opened_onto (ccm_open (cipher w.now) m n a.now c.now) out.old }
 {
@@ -209,8 +209,8 @@ pub(crate) fn open_with(
     let mac = mac_of(sb, w, m, n, a, &plain[..l]);
     let tag = mask(sb, w, n, block_from(&c[l..], 0));
     if !octets::same(&tag[..m], &mac[..m]) {
-        return Answer::Refused(Fault::Forged);
+        return Err(Fault::Forged);
     }
     octets::paste_at(out, 0, &plain[..l]);
-    Answer::Made(l)
+    Ok(l)
 }
