@@ -9,14 +9,14 @@ use lib.Dec.{lit<, lit≤}
 use borrow.Author.Tests.{le-leb, lt-leb, lt-ltb, le-ltb}
 use Rattle.io.specs.Digits.{hex_digit_ascii, last_digits, IsDigitCount}
 use Rattle.text.specs.Decimal.{decimal, decimal_in, at_most}
-use Rattle.text.specs.declared.decimal.Number.TheVariants.{Is, Bad}
+use Rattle.std.proofs.Common.{Some, None}
 use Rattle.text.proofs.Widths.{no_more}
 
-pub at-most : (most n : ℕ) → n ≤ most → at_most most n ≡ Is n
+pub at-most : (most n : ℕ) → n ≤ most → at_most most n ≡ Some n
 unfolding at_most
 at-most most n h = rw (le-leb n most h)
 
-pub too_many : (most n : ℕ) → most < n → at_most most n ≡ Bad
+pub too_many : (most n : ℕ) → most < n → at_most most n ≡ None
 unfolding at_most
 too_many most n h = rw (lt-leb n most h)
 

@@ -16,11 +16,9 @@ use Rattle.octets.specs.Lists.{at, onto, Octets}
 use Rattle.text.specs.Digits.{digit_of, all_digits, spelt}
 use Rattle.text.specs.Hex.{hex_of, octets_of, is_hex, unhexed, read_into, address, address_of}
 use Rattle.text.specs.Decimal.{decimal, decimal_in, zero_led, is_decimal, number_of}
-use Rattle.text.specs.declared.hex.Octets.TheVariants.{Are}
+use Rattle.std.proofs.Common.{Some}
 use Rattle.text.proofs.Hexed.{length-hex}
 use Rattle.text.proofs.Decimals.{at-most}
-use Rattle.text.specs.declared.hex.Address.TheVariants as addresses
-use Rattle.text.specs.declared.decimal.Number.TheVariants as numbers
 
 digit_glyph : (d : ℕ) → d < 16 → digit_of (hex_digit_ascii d) ≡ d
 unfolding digit_of
@@ -60,7 +58,7 @@ hex-digits (x ∷ l) h =
     let v : x % 16 < 16 = omega arith in
     rw (digit_glyph (x / 16) u, digit_glyph (x % 16) v, lt-ltb (x / 16) 16 u, lt-ltb (x % 16) 16 v) (hex-digits l (tail-octets h))
 
-pub hex-back : (l o : List ℕ) → Octets l → length l ≤ length o → unhexed (hex_of l) o ≡ read_into (Are (length l)) (onto l o)
+pub hex-back : (l o : List ℕ) → Octets l → length l ≤ length o → unhexed (hex_of l) o ≡ read_into (Some (length l)) (onto l o)
 unfolding unhexed is_hex
 hex-back l o h r =
     let e : length (hex_of l) / 2 ≡ length l = omega (arith, length-hex l) in
@@ -106,7 +104,7 @@ address-spelt : (a : ℕ) → a < 2 ^ 64 → Spelt 16 a (address a)
 unfolding address
 address-spelt a h = digits-spelt 16 a h
 
-pub address-back : (a : ℕ) → a < 2 ^ 64 → address_of (address a) ≡ addresses.Is a
+pub address-back : (a : ℕ) → a < 2 ^ 64 → address_of (address a) ≡ Some a
 unfolding address_of
 address-back a h =
     let w = address-spelt a h in
@@ -168,7 +166,7 @@ whole-spelt : (n : ℕ) → n < 10 ^ 20 → Decimal n (decimal n)
 unfolding decimal
 whole-spelt n h = decimal-spelt 20 n h (lit< tt)
 
-pub number-back : (n most : ℕ) → n ≤ most → n < 10 ^ 20 → number_of (decimal n) most ≡ numbers.Is n
+pub number-back : (n most : ℕ) → n ≤ most → n < 10 ^ 20 → number_of (decimal n) most ≡ Some n
 unfolding number_of is_decimal
 number-back n most h k =
     let w = whole-spelt n k in

@@ -1,13 +1,11 @@
 -- The bench language: "B a decimal from 0 to 255, C a decimal from 0 to 4294967295, S a decimal from 0 to 65535; decimals
 -- have no leading zero." Assumes nothing.
-use Rattle.std.specs.Prelude.{Bool, not, List, [], ◌∷◌, ◌++◌, ℕ, zero, suc, ◌/◌, ◌%◌, length, ◌==◌, nat_lt, nat_le}
+use Rattle.std.specs.Prelude.{Bool, not, List, [], ◌∷◌, ◌++◌, ℕ, zero, suc, ◌/◌, ◌%◌, length, ◌==◌, nat_lt, nat_le, Option, Some, None}
 use Rattle.io.specs.Digits.{hex_digit_ascii}
 use Rattle.std.specs.Prelude.{if◌then◌else◌}
 use Rattle.octets.specs.Choice.{both}
 use Rattle.octets.specs.Lists.{at}
 use Rattle.text.specs.Digits.{all_digits, spelt}
-use Rattle.text.specs.declared.decimal.Number.{Number}
-use Rattle.text.specs.declared.decimal.Number.TheVariants.{Is, Bad}
 
 -- the last k digits of n, without a zero in front
 unfoldable pub decimal_in : ℕ → ℕ → List ℕ
@@ -26,10 +24,10 @@ zero_led l = both (nat_lt 1 (length l)) (at l 0 == 48)
 unfoldable pub is_decimal : List ℕ → Bool
 is_decimal l = both (nat_lt 0 (length l)) (both (not (zero_led l)) (all_digits 10 l))
 
--- a number within a range from 0
-unfoldable pub at_most : ℕ → ℕ → Number
-at_most most n = if nat_le n most then Is n else Bad
+-- a number within a range from 0, or nothing
+unfoldable pub at_most : ℕ → ℕ → Option ℕ
+at_most most n = if nat_le n most then Some n else None
 
--- the number that l spells
-unfoldable pub number_of : List ℕ → ℕ → Number
-number_of l most = if is_decimal l then at_most most (spelt 10 0 l) else Bad
+-- the number that l spells, or nothing
+unfoldable pub number_of : List ℕ → ℕ → Option ℕ
+number_of l most = if is_decimal l then at_most most (spelt 10 0 l) else None

@@ -1,16 +1,12 @@
 -- The bench language: "A an address, 16 hex digits, most significant first. K 32 hex digits, in octet order. F hex of
 -- 0 to 256 octets. Hex is read in either case and written small." How many octets there may be is the room that is lent.
 -- Assumes nothing.
-use Rattle.std.specs.Prelude.{Bool, List, [], ◌∷◌, ℕ, ◌+◌, ◌*◌, ◌/◌, ◌%◌, length, ◌==◌, nat_le}
+use Rattle.std.specs.Prelude.{Bool, List, [], ◌∷◌, ℕ, ◌+◌, ◌*◌, ◌/◌, ◌%◌, length, ◌==◌, nat_le, Option, Some, None}
 use Rattle.io.specs.Digits.{hex_digit_ascii, last_digits}
 use Rattle.std.specs.Prelude.{if◌then◌else◌}
 use Rattle.octets.specs.Choice.{both}
 use Rattle.octets.specs.Lists.{onto}
 use Rattle.text.specs.Digits.{digit_of, all_digits, spelt}
-use Rattle.text.specs.declared.hex.Octets.{Octets}
-use Rattle.text.specs.declared.hex.Address.{Address}
-use Rattle.text.specs.declared.hex.Octets.TheVariants as octets
-use Rattle.text.specs.declared.hex.Address.TheVariants as addresses
 
 -- octets in hex, small
 unfoldable pub hex_of : List ℕ → List ℕ
@@ -23,12 +19,12 @@ octets_of [] = []
 octets_of (a ∷ []) = []
 octets_of (a ∷ b ∷ l) = (digit_of a * 16 + digit_of b) ∷ octets_of l
 
--- what reading hex into an output answers, and what the output then holds
+-- what reading hex into an output answers, how many octets or nothing, and what the output then holds
 pub record Unhexed : Type 0 where
-  pub answer : Octets
+  pub answer : Option ℕ
   pub out : List ℕ
 
-abbrev pub read_into : Octets → List ℕ → Unhexed
+abbrev pub read_into : Option ℕ → List ℕ → Unhexed
 read_into r o = record { answer = r; out = o }
 
 -- l is hex of whole octets, n of them at most
@@ -39,16 +35,16 @@ is_hex l n = both ((length l % 2) == 0) (both (nat_le (length l / 2) n) (all_dig
 unfoldable pub unhexed : List ℕ → List ℕ → Unhexed
 unhexed l o =
     if is_hex l (length o)
-    then read_into (octets.Are (length l / 2)) (onto (octets_of l) o)
-    else read_into octets.Bad o
+    then read_into (Some (length l / 2)) (onto (octets_of l) o)
+    else read_into None o
 
 -- an address in hex
 unfoldable pub address : ℕ → List ℕ
 address a = last_digits 16 16 a
 
--- the address that 16 digits spell
-unfoldable pub address_of : List ℕ → Address
+-- the address that 16 digits spell, or nothing
+unfoldable pub address_of : List ℕ → Option ℕ
 address_of l =
     if both (length l == 16) (all_digits 16 l)
-    then addresses.Is (spelt 16 0 l)
-    else addresses.Bad
+    then Some (spelt 16 0 l)
+    else None

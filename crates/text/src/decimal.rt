@@ -8,18 +8,12 @@ ghost use Rattle.text.specs.Decimal.{decimal, zero_led, is_decimal, number_of, a
 use crate::cursor::put;
 use crate::digits::{all_digits, digit};
 
-#[derive(Clone, Copy)]
-pub enum Number {
-    Is(u32),
-    Bad,
-}
-
-// Reads a number up to most.
-pub fn number_of(s: &[u8], most: u32) -> Number
+// Reads a number up to most; nothing where s spells none, or a greater one.
+pub fn number_of(s: &[u8], most: u32) -> Option<u32>
     ensures { result ≡ number_of s.now most }
 {
     if !is_decimal(s) {
-        return Number::Bad;
+        return None;
     }
     value(s, most)
 }
@@ -57,7 +51,7 @@ fn zero_led(s: &[u8]) -> bool
 
 // The number that s spells, if it is at most that. It is left as soon as it is more, so that no
 // spelling is too long for it.
-fn value(s: &[u8], most: u32) -> Number
+fn value(s: &[u8], most: u32) -> Option<u32>
     ensures { result ≡ at_most most (spelt 10 0 s.now) }
 {
     let limit = most as u64;
@@ -65,8 +59,8 @@ fn value(s: &[u8], most: u32) -> Number
     for i in 0..s.len() {
         n = n * 10 + digit(s[i]) as u64;
         if limit < n {
-            return Number::Bad;
+            return None;
         }
     }
-    Number::Is(n as u32)
+    Some(n as u32)
 }

@@ -9,48 +9,35 @@ ghost use Rattle.text.specs.Hex.{hex_of, octets_of, unhexed, read_into, address,
 use crate::cursor::put;
 use crate::digits::{all_digits, digit};
 
-// How many octets were read, or that it was no hex, or more than there is room for.
-#[derive(Clone, Copy)]
-pub enum Octets {
-    Are(usize),
-    Bad,
-}
-
-#[derive(Clone, Copy)]
-pub enum Address {
-    Is(u64),
-    Bad,
-}
-
-// Reads hex into the front of out. All of it is looked at before out is touched, so that a refusal
-// leaves out as it stood.
-pub fn octets_of(s: &[u8], out: &mut [u8]) -> Octets
+// Reads hex into the front of out, and answers how many octets; nothing where it is no hex, or more than there is
+// room for. All of it is looked at before out is touched, so that a refusal leaves out as it stood.
+pub fn octets_of(s: &[u8], out: &mut [u8]) -> Option<usize>
     ensures { read_into result out.new ≡ unhexed s.now out.old }
 {
     if s.len() % 2 != 0 {
-        return Octets::Bad;
+        return None;
     }
     if out.len() < s.len() / 2 {
-        return Octets::Bad;
+        return None;
     }
     if !all_digits(16, s) {
-        return Octets::Bad;
+        return None;
     }
     fill(s, out);
-    Octets::Are(s.len() / 2)
+    Some(s.len() / 2)
 }
 
-// Reads an address, 16 digits with the most significant first.
-pub fn address_of(s: &[u8]) -> Address
+// Reads an address, 16 digits with the most significant first; nothing where s is no such digits.
+pub fn address_of(s: &[u8]) -> Option<u64>
     ensures { result ≡ address_of s.now }
 {
     if s.len() != 16 {
-        return Address::Bad;
+        return None;
     }
     if !all_digits(16, s) {
-        return Address::Bad;
+        return None;
     }
-    Address::Is(value(s))
+    Some(value(s))
 }
 
 // Writes the octets of src in hex.

@@ -11,7 +11,7 @@ mod fields;
 mod hex;
 
 pub use cursor::{front, put};
-pub use decimal::{Number, number_of, put_decimal};
+pub use decimal::{number_of, put_decimal};
 pub use digits::{all_digits, digit};
 pub use fields::{count, field, which};
-pub use hex::{Address, Octets, address_of, octets_of, put_address, put_hex};
+pub use hex::{address_of, octets_of, put_address, put_hex};
