@@ -1,5 +1,6 @@
 -- A command is known by what it tells, and so is what the reader answers: its contract leaves one answer.
 -- Assumes nothing.
+use Rattle.answers.specs.declared.Refusal.{Refusal}
 use Rattle.std.proofs.Common.{◌≡◌, ℕ, eqb, List, sym, refl, ap, ◌∙◌, Result, Ok, Err}
 use Rattle.std.specs.Prelude.{if◌then◌else◌}
 use Rattle.octets.specs.Lists.{at}

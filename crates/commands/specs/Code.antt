@@ -1,6 +1,8 @@
 -- Of the code: what contracts of private functions name. Nothing here need be believed: every callable routine's contract is
 -- stated without it.
 -- Assumes nothing.
+use Rattle.answers.specs.declared.Refusal.{Refusal}
+use Rattle.commands.specs.declared.Kind.{Kind}
 use Rattle.std.specs.Prelude.{ℕ, List, take, Result, Ok, Err}
 use Rattle.answers.specs.Numbers.{number_of}
 use Rattle.commands.specs.declared.Line.{Line}

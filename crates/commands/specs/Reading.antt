@@ -3,6 +3,8 @@
 -- identifier), then 12. Status, flag and other type fields are handed on unjudged. Each command is an answer of its own kind
 -- with its fields." The places of the fields are those of source document 000, 4.4.11, behind a header of 2 octets.
 -- Assumes nothing.
+use Rattle.answers.specs.declared.Refusal.{Refusal}
+use Rattle.commands.specs.declared.Command.{Command}
 use Rattle.std.specs.Prelude.{ℕ, ◌+◌, not, List, [], ◌∷◌, length, drop, nat_lt, Option, Some, None, Result, Ok, Err}
 use Rattle.std.specs.Prelude.{if◌then◌else◌}
 use Rattle.octets.specs.Lists.{at}

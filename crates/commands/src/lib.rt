@@ -8,8 +8,6 @@ mod reader;
 mod table;
 mod writer;
 
-use answers::{Refusal};
-use board::Board;
 pub use parts::{hash_of, inner_of, key_of, tlvs_of, value_of};
 pub use reader::read_command;
 pub use writer::write_command;
@@ -56,20 +54,6 @@ pub enum Requested {
     TrustCentre,
 }
 
-// What the reader answers.
-#[derive(Clone, Copy)]
-pub enum Reading {
-    Command(Command),
-    Refused(Refusal),
-}
-
-// What the writer answers, and the board that it leaves.
-#[derive(Clone, Copy)]
-pub struct Wrote {
-    pub answer: Result<usize, Refusal>,
-    pub board: Board,
-}
-
 // A command without its numbers: a row of 01's list, by identifier and inner type.
 #[derive(Clone, Copy)]
 pub(crate) enum Kind {
@@ -87,12 +71,6 @@ pub(crate) enum Kind {
     Confirm,
     Down,
     Up,
-}
-
-#[derive(Clone, Copy)]
-enum Listed {
-    Reserved,
-    Is(Kind),
 }
 
 // The sixteen octets that a command may have.
@@ -127,13 +105,6 @@ pub(crate) struct Rule {
     pub secret: Secret,
     pub rest: Rest,
     pub under: Allowed,
-}
-
-// A frame judged.
-#[derive(Clone, Copy)]
-enum Judged {
-    Refused(Refusal),
-    Sound(Kind),
 }
 
 // Where a part stands in a frame.

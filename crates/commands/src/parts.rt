@@ -9,7 +9,8 @@ ghost use Rattle.commands.specs.Code.{told_judged};
 ghost use Rattle.commands.specs.Parts.{cut_at, key_in, hash_in, key_span, hash_span, rest_span, tlvs_in, inner_in, tlvs_span, inner_span, value_span};
 ghost use Rattle.commands.specs.Parts.{nowhere};
 
-use crate::{Rest, Secret, Span, reader, table};
+use crate::{Kind, Rest, Secret, Span, reader, table};
+use answers::Refusal;
 use tlvs::Walked;
 
 fn nowhere() -> Span

@@ -11,7 +11,7 @@ ghost use Rattle.octets.specs.Least.{number_at};
 ghost use Rattle.commands.specs.declared.Transported.{Transported};
 
 use crate::{Command, Kind, Requested, Transported, kinds, table};
-use answers::{Refusal};
+use answers::Refusal;
 
 // 11 and 12 of a kind that the list has.
 fn judge_kind(f: &[u8], p: Option<u8>, k: Kind) -> Result<Kind, Refusal>

@@ -10,9 +10,9 @@ ghost use Rattle.commands.specs.Kinds.{kind_of};
 ghost use Rattle.commands.specs.Writing.{command_control, own_octets, whole, aps_raised, write_command};
 ghost use Rattle.commands.specs.Code.{lined};
 
-use crate::{Command, Line, Requested, Rule, Transported, Wrote, kinds, table};
-use answers::{Refusal};
-use board::Board;
+use crate::{Command, Line, Requested, Rule, Transported, kinds, table};
+use answers::Refusal;
+use board::{After, Board};
 
 // What a header of two octets leaves of the longest frame.
 const LONGEST_COMMAND: usize = settings::LONGEST_APS - 2;
@@ -155,10 +155,10 @@ fn lay(control: u8, counter: u8, own: Line, rest: &[u8], out: &mut [u8]) -> usiz
 }
 
 // A refusal, which leaves the board as it stood.
-fn refuse(why: Refusal, board: Board) -> Wrote
+fn refuse(why: Refusal, board: Board) -> After<usize>
     ensures { (told_written result.answer ≡ turned_down (number_of why)) × (result.board ≡ board) }
 {
-    Wrote {
+    After {
         answer: Err(why),
         board,
     }
@@ -174,7 +174,7 @@ pub fn write_command(
     secret: &[u8],
     rest: &[u8],
     out: &mut [u8],
-) -> Wrote
+) -> After<usize>
     ensures { framed (told_written result.answer) result.board out.new ≡ write_command ours board ack command secret.now rest.now out.old }
 {
     if out.len() < settings::LONGEST_APS {
@@ -190,7 +190,7 @@ pub fn write_command(
     let own = own_octets(command, secret);
     let next = aps_raised(board);
     let n = lay(command_control(ack), board.aps, own, rest, out);
-    Wrote {
+    After {
         answer: Ok(n),
         board: next,
     }

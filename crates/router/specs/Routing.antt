@@ -2,6 +2,7 @@
 -- as the reader does; another command than Tunnel is 11. Document 01, "How to write each place": "the inner frame, a part that
 -- starts in the tunnel's middle, is handed on; so are header, auxiliary header, payload and tag."
 -- Assumes nothing.
+use Rattle.answers.specs.declared.Refusal.{Refusal}
 use Rattle.std.specs.Prelude.{List, ◌++◌, ℕ, ◌+◌, ◌-◌, length, ◌==◌, Result, Ok, Err}
 use Rattle.settings.specs.Settings.{Settings, aps_aux}
 use Rattle.std.specs.Prelude.{if◌then◌else◌}

@@ -9,9 +9,9 @@ ghost use Rattle.commands.specs.Parts.{cut_at};
 ghost use Rattle.commands.specs.Table.{least_inner};
 ghost use Rattle.router.specs.Routing.{told_routed, tunnel_to, route, start_of, size_of, portion_span};
 
-use crate::{Portion};
-use answers::{Refusal};
-use commands::{Command};
+use crate::Portion;
+use answers::Refusal;
+use commands::Command;
 
 // The octets of the inner header: an inner frame is a command.
 const HEADER: usize = 2;
