@@ -1,5 +1,6 @@
 -- Opening under a link key, of what its calls answered.
 -- Assumes nothing.
+use Rattle.answers.specs.declared.Refusal.{Refusal}
 use Rattle.std.proofs.Common.{Option, Some, None, Result}
 use mathlib.Core.Path.{◌≡◌, sym, ap, ap₂, ◌∙◌}
 use mathlib.Core.Bool.{true}

@@ -1,6 +1,7 @@
 -- Of the code: what contracts of private functions name. Nothing here need be believed: every callable routine's contract is
 -- stated without it.
 -- Assumes nothing.
+use Prim.Native.Nat.{ℕ}
 use Rattle.std.specs.Prelude.{Option, Some, None}
 use Rattle.board.specs.declared.Board.{Board}
 use Rattle.board.specs.declared.Link.{Link}

@@ -1,5 +1,6 @@
 -- An answer of unsealing or sealing is known by what it tells: contracts that speak of lengths and of 01's numbers leave one.
 -- Assumes nothing.
+use Prim.Native.Nat.{ℕ}
 use Rattle.std.proofs.Common.{Option, Some, None}
 use mathlib.Core.Path.{◌≡◌, refl, sym, ap, ◌∙◌}
 use Rattle.cipher.specs.Answers.{Count, made, refused}

@@ -9,23 +9,8 @@ ghost use Rattle.cipher.specs.Answers.{sealing as cipher_sealing};
 ghost use Rattle.seals.specs.Sealing.{sound, sent_octets, told_unsealed, told_enclosed, unsealing, looking, sealable};
 ghost use Rattle.seals.specs.Sealing.{sealing as seals_sealing};
 
+use cipher::Fault;
 use frames::{Layer, Secured};
-
-// The length of the plain frame that was made; or 9, tag wrong. So are told, too, a frame that is
-// not what was announced and an output under 116 octets, which the layers judge before.
-#[derive(Clone, Copy)]
-pub enum Unsealed {
-    Plain(usize),
-    Forged,
-}
-
-// The length of the secured frame that was made; or 14, argument not allowed: an identifier above
-// 3, a header that the frame does not have, no room.
-#[derive(Clone, Copy)]
-pub enum Enclosed {
-    Octets(usize),
-    Nothing,
-}
 
 fn is_sound(f: &[u8], s: Secured) -> bool
     ensures { result ≡ sound ours f.now s }
@@ -76,7 +61,7 @@ fn unseal_body(
     n: usize,
     h: usize,
     out: &mut [u8],
-) -> Answer
+) -> Result<usize, Fault>
     requires { (n ≤ length f.now) × (h ≤ length out.old) }
     ensures out_after { product (counted result) (drop h out.new) ≡ opening ours.tag key nonce a.now (drop n f.now) (drop h out.old) }
     ensures out_unchanged { take h out.new ≡ take h out.old }
@@ -205,7 +190,7 @@ fn seal_body(
     h: usize,
     n: usize,
     out: &mut [u8],
-) -> Answer
+) -> Result<usize, Fault>
     requires { (h ≤ length f.now) × (n ≤ length out.old) }
     ensures out_after { product (counted result) (drop n out.new) ≡ cipher_sealing ours.tag key nonce a.now (drop h f.now) (drop n out.old) }
     ensures out_unchanged { take n out.new ≡ take n out.old }
