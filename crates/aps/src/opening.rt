@@ -9,10 +9,9 @@ ghost use Rattle.seals.specs.Sealing.{message_of, sound};
 ghost use Rattle.aps.specs.Opening.{key_named, admitted, opened_under, opened_keyed, open_aps};
 ghost use Rattle.aps.specs.Code.{linked};
 
-use crate::Received;
 use crate::keys::{identifier, key_named};
 use answers::{Opened, Refusal};
-use board::{Board, Link};
+use board::{After, Board, Link};
 use frames::{Layer, Read, Secured};
 use settings::{LONGEST, LONGEST_APS, TOP};
 
@@ -122,7 +121,7 @@ fn open_read(links: [Link; 8], f: &[u8], given: u64, out: &mut [u8]) -> Heard
 
 // Opens an APS frame; given is its sender where it carries none. The plain frame stands at the start
 // of out. A refusal leaves the board and out as they stood.
-pub fn open_frame(board: Board, frame: &[u8], given: u64, out: &mut [u8]) -> Received
+pub fn open_frame(board: Board, frame: &[u8], given: u64, out: &mut [u8]) -> After<Opened>
     ensures { framed (told_opened result.answer) result.board out.new ≡ open_aps ours board frame.now given out.old }
 {
     // Made before the stages run: made behind them, it would be a second copy on the stack.
@@ -138,7 +137,7 @@ pub fn open_frame(board: Board, frame: &[u8], given: u64, out: &mut [u8]) -> Rec
         }
         None => {}
     }
-    Received {
+    After {
         answer,
         board: next,
     }

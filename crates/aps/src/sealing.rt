@@ -9,9 +9,9 @@ ghost use Rattle.board.specs.Sending.{with_outgoing, counter_after, framed, send
 ghost use Rattle.aps.specs.Sealing.{named, sealed_under, sealed_for, seal_aps};
 
 use crate::keys::key_for;
-use answers::{Refusal};
-use board::{Board, Link, Sending, Sent};
-use frames::{Layer};
+use answers::Refusal;
+use board::{Board, Link, Sending, After};
+use frames::Layer;
 use settings::{LONGEST, LONGEST_APS_PLAIN};
 
 // Whether an identifier names a key of a link entry.
@@ -86,7 +86,7 @@ fn seal_read(links: [Link; 8], sending: Sending, f: &[u8], a: u64, k: u8, out: &
 // Seals a plain APS frame for a partner under key identifier 0, 2 or 3: the secured frame stands at
 // the start of out, and the outgoing counter is spent. A refusal leaves the board and out as they
 // stood.
-pub fn seal_frame(board: Board, frame: &[u8], partner: u64, identifier: u8, out: &mut [u8]) -> Sent
+pub fn seal_frame(board: Board, frame: &[u8], partner: u64, identifier: u8, out: &mut [u8]) -> After<usize>
     ensures { framed (told_sealed result.answer) result.board out.new ≡ seal_aps ours board frame.now partner identifier out.old }
 {
     // Made before the stages run: made behind them, it would be a second copy on the stack.
@@ -95,7 +95,7 @@ pub fn seal_frame(board: Board, frame: &[u8], partner: u64, identifier: u8, out:
     let sending = board::sending_of(board);
     let answer = seal_read(links, sending, frame, partner, identifier, out);
     next.outgoing = board::counter_after(answer, board.outgoing);
-    Sent {
+    After {
         answer,
         board: next,
     }

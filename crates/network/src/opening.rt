@@ -29,14 +29,14 @@ fn admit(
     requires r_in_bounds { (r < length addrs.old) × (r < length floors.old) }
     ensures { leaving (told_opened result) (lent addrs.new floors.new out.new) ≡ admitted f.now s (lent addrs.old floors.old out.old) (message_of ours (the_key key) f.now s) (Some r) }
 {
-    match seals::unseal(key, Layer::Network, f, s, out) {
-        Some(n) => {
-            addrs[r] = s.sender;
-            floors[r] = s.counter + 1;
-            Opened::Frame(n, s.sender, Some(1))
-        }
-        None => Err(Refusal::Forged),
-    }
+    let length = seals::unseal(key, Layer::Network, f, s, out).ok_or(Refusal::Forged)?;
+    addrs[r] = s.sender;
+    floors[r] = s.counter + 1;
+    Ok(Opened {
+        length,
+        sender: s.sender,
+        protection: Some(1),
+    })
 }
 
 // A frame for which there is no row: 9 comes before 10.
@@ -126,14 +126,8 @@ fn open_keyed(
     requires { (sound ours f.now s ≡ true) × ((longest ≤ length out.old) × (length addrs.old ≡ length floors.old)) }
     ensures { leaving (told_opened result) (lent addrs.new floors.new out.new) ≡ opened_keyed ours rows slots f.now s (lent addrs.old floors.old out.old) (slot_of slots s.sequence) }
 {
-    match board::slot_of(slots, s.sequence) {
-        Some(i) => {
-            let slot = slots[i];
-            let key = slot.key;
-            open_under(rows, key, i, f, s, addrs, floors, out)
-        }
-        None => Err(Refusal::NoKey),
-    }
+    let i = board::slot_of(slots, s.sequence).ok_or(Refusal::NoKey)?;
+    open_under(rows, slots[i].key, i, f, s, addrs, floors, out)
 }
 
 // Opens a network frame: the plain frame stands at the start of out. A refusal leaves the lists and
@@ -157,15 +151,15 @@ pub fn open_frame(
     if LONGEST < frame.len() {
         return Err(Refusal::Long);
     }
-    match frames::read_frame(Layer::Network, frame, 0) {
-        Err(r) => Err(r),
-        Ok(Read::Plain(_)) => {
+    match frames::read_frame(Layer::Network, frame, 0)? {
+        Read::Plain(_) => {
             octets::paste_at(out, 0, frame);
-            Opened::Frame(frame.len(), 0, None)
+            Ok(Opened {
+                length: frame.len(),
+                sender: 0,
+                protection: None,
+            })
         }
-        Ok(Read::Secured(s)) => {
-            let slots = board.slots;
-            open_keyed(rows, slots, frame, s, addrs, floors, out)
-        }
+        Read::Secured(s) => open_keyed(rows, board.slots, frame, s, addrs, floors, out),
     }
 }

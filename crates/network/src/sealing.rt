@@ -6,27 +6,24 @@ ghost use Rattle.answers.specs.Numbers.{told_sealed};
 ghost use Rattle.board.specs.Sending.{with_outgoing, counter_after, framed, sending_of};
 ghost use Rattle.network.specs.Sealing.{sealed_under, sealed_by, seal_network};
 
-use answers::{Refusal};
-use board::{Board, Sending, Sent, Slot};
-use frames::{Layer};
+use answers::Refusal;
+use board::{After, Board, Sending, Slot};
+use frames::Layer;
 use settings::{LONGEST, LONGEST_PLAIN};
 
-fn seal_under(sending: Sending, s: Slot, f: &[u8], h: usize, out: &mut [u8]) -> Result<usize, Refusal>
+fn seal_under(
+    sending: Sending,
+    s: Slot,
+    f: &[u8],
+    h: usize,
+    out: &mut [u8],
+) -> Result<usize, Refusal>
     requires { ((2 ≤ h) × (h ≤ length f.now)) × ((length f.now ≤ longest_plain ours) × (longest ≤ length out.old)) }
     ensures { (b : Board) → sending_of b ≡ sending → framed (told_sealed result) (with_outgoing b (counter_after (told_sealed result) b.outgoing)) out.new ≡ sealed_under ours b f.now out.old h s }
 {
-    match board::may_send(sending) {
-        Err(r) => Err(r),
-        Ok(()) => {
-            let key = s.key;
-            let counter = sending.counter;
-            let own = sending.own;
-            match seals::seal(key, Layer::Network, 1, counter, own, s.seq, f, h, out) {
-                Some(n) => Ok(n),
-                None => Err(Refusal::Room),
-            }
-        }
-    }
+    board::may_send(sending)?;
+    let Sending { own, counter, .. } = sending;
+    seals::seal(s.key, Layer::Network, 1, counter, own, s.seq, f, h, out).ok_or(Refusal::Room)
 }
 
 fn seal_active(
@@ -67,7 +64,13 @@ fn seal_by(
     }
 }
 
-fn seal_read(slots: [Slot; 2], active: Option<usize>, sending: Sending, f: &[u8], out: &mut [u8]) -> Result<usize, Refusal>
+fn seal_read(
+    slots: [Slot; 2],
+    active: Option<usize>,
+    sending: Sending,
+    f: &[u8],
+    out: &mut [u8],
+) -> Result<usize, Refusal>
     ensures { (b : Board) → b.slots ≡ slots → b.active ≡ active → sending_of b ≡ sending → framed (told_sealed result) (with_outgoing b (counter_after (told_sealed result) b.outgoing)) out.new ≡ seal_network ours b f.now out.old }
 {
     if out.len() < LONGEST {
@@ -76,15 +79,13 @@ fn seal_read(slots: [Slot; 2], active: Option<usize>, sending: Sending, f: &[u8]
     if LONGEST_PLAIN < f.len() {
         return Err(Refusal::Long);
     }
-    match frames::read_plain(Layer::Network, f) {
-        Err(r) => Err(r),
-        Ok(h) => seal_by(slots, active, sending, f, h, out),
-    }
+    let h = frames::read_plain(Layer::Network, f)?;
+    seal_by(slots, active, sending, f, h, out)
 }
 
 // Seals a plain network frame under the active key: the secured frame stands at the start of out,
 // and the outgoing counter is spent. A refusal leaves the board and out as they stood.
-pub fn seal_frame(board: Board, frame: &[u8], out: &mut [u8]) -> Sent
+pub fn seal_frame(board: Board, frame: &[u8], out: &mut [u8]) -> After<usize>
     ensures { framed (told_sealed result.answer) result.board out.new ≡ seal_network ours board frame.now out.old }
 {
     let slots = board.slots;
@@ -93,7 +94,7 @@ pub fn seal_frame(board: Board, frame: &[u8], out: &mut [u8]) -> Sent
     let answer = seal_read(slots, active, sending, frame, out);
     let mut next = board;
     next.outgoing = board::counter_after(answer, board.outgoing);
-    Sent {
+    After {
         answer,
         board: next,
     }
