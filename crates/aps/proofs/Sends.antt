@@ -1,6 +1,8 @@
 -- Sealing under a link key, of what its calls answered.
 -- Assumes nothing.
-use Rattle.std.proofs.Common.{Option, Some}
+use Rattle.std.proofs.Common.{Option, Some, None, refl}
+use Rattle.std.specs.Option.{ok_or}
+use Rattle.answers.specs.declared.Refusal.TheVariants.{Room}
 use mathlib.Core.Path.{◌≡◌, refl, sym, ap, ap₂, ◌∙◌}
 use mathlib.Core.Bool.{true, not}
 use mathlib.Core.List.{List}
@@ -12,19 +14,19 @@ use borrow.Author.Tests.{leb-true, eqb-false, not-true}
 use Rattle.settings.specs.Settings.{Settings, longest, aps_aux, longest_aps_plain}
 use Rattle.octets.specs.Keys.{Key}
 use Rattle.octets.proofs.Choices.{both-parts}
-use Rattle.answers.specs.Numbers.{done, refused, sealed, turned_down}
+use Rattle.answers.specs.Numbers.{done, refused, sealed, turned_down, told_sealed}
 use Rattle.cipher.specs.Answers.{product}
 use Rattle.frames.specs.declared.Layer.TheVariants.{Aps}
 use Rattle.frames.specs.Reading.{headed, reading_plain}
 use Rattle.frames.proofs.Found.{plain-to-seal}
 use Rattle.board.specs.declared.Board.{Board}
 use Rattle.board.specs.declared.Sending.{Sending}
-use Rattle.board.specs.Sending.{raised, with_outgoing, spent, framed, sending_of, may_send, send}
+use Rattle.board.specs.Sending.{raised, with_outgoing, counter_after, spent, framed, sending_of, may_send, send}
 use Rattle.board.proofs.Sends.{send-refused, send-done}
 use Rattle.seals.specs.Sealing.{sent_octets, sealed_frame, sealing, told_enclosed}
 use Rattle.seals.proofs.Again.{Suited}
 use Rattle.seals.proofs.Securing.{Sealable, sealed-length}
-use Rattle.seals.proofs.Tells.{sealed-tells}
+use Rattle.seals.proofs.Tells.{sealed-tells, never-nothing}
 use Rattle.aps.specs.Keys.{key_for}
 use Rattle.aps.specs.Sealing.{named, sealed_under}
 
@@ -65,6 +67,16 @@ module _ (z : Settings) (s : Sending) (key : Key) (k : ℕ) (f : List ℕ) (h : 
       ap₂ (λ (y : ℕ) (q : List ℕ). framed (sealed y) (spent b) q) (t.0 ∙ sym n) t.1
       ∙ send-done s b eb (sealed_frame z x Aps k b.outgoing b.own 0 f h) o may
       ∙ ap (λ (y : Key). send b (sealed_frame z y Aps k b.outgoing b.own 0 f h) o) ex
+
+  -- what `seal` answers, and is told by
+  pub sent-link : k ≤ 3 → Sealable z k f h → longest ≤ length o → may_send s ≡ done
+      → (x : Key) (w : Option ℕ) (p : List ℕ) → x ≡ key_for key k
+      → product (told_enclosed w) p ≡ sealing z x Aps k s.counter s.own 0 f h o → (b : Board) → sending_of b ≡ s
+      → framed (told_sealed (ok_or w Room)) (with_outgoing b (counter_after (told_sealed (ok_or w Room)) b.outgoing)) p
+      ≡ sealed_under z b f o h k key
+  sent-link low fits room may x (Some m) p ex e b eb = sealed-link low fits room may x (Some m) m p ex refl e b eb
+  sent-link low fits room may x None p ex e b eb =
+      never-nothing z x Aps k s.counter s.own 0 f h o low fits room None p refl e
 
 -- a plain frame has its header, and more than the control field in it
 pub plain-bounds : (f : List ℕ) (h : ℕ) → reading_plain Aps f ≡ headed h → (2 ≤ h) × (h ≤ length f)

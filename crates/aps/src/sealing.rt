@@ -10,7 +10,7 @@ ghost use Rattle.aps.specs.Sealing.{named, sealed_under, sealed_for, seal_aps};
 
 use crate::keys::key_for;
 use answers::Refusal;
-use board::{Board, Link, Sending, After};
+use board::{After, Board, Link, Sending};
 use frames::Layer;
 use settings::{LONGEST, LONGEST_APS_PLAIN};
 
@@ -24,21 +24,21 @@ fn is_named(identifier: u8) -> bool
     identifier != 1
 }
 
-fn seal_under(sending: Sending, key: [u8; 16], k: u8, f: &[u8], h: usize, out: &mut [u8]) -> Result<usize, Refusal>
+fn seal_under(
+    sending: Sending,
+    key: [u8; 16],
+    k: u8,
+    f: &[u8],
+    h: usize,
+    out: &mut [u8],
+) -> Result<usize, Refusal>
     requires { ((2 ≤ h) × (h ≤ length f.now)) × ((length f.now ≤ longest_aps_plain ours) × ((longest ≤ length out.old) × (named k ≡ true))) }
     ensures { (b : Board) → sending_of b ≡ sending → framed (told_sealed result) (with_outgoing b (counter_after (told_sealed result) b.outgoing)) out.new ≡ sealed_under ours b f.now out.old h k (the_key key) }
 {
-    match board::may_send(sending) {
-        Err(r) => Err(r),
-        Ok(()) => {
-            let named = key_for(key, k);
-            let counter = sending.counter;
-            match seals::seal(named, Layer::Aps, k, counter, sending.own, 0, f, h, out) {
-                Some(n) => Ok(n),
-                None => Err(Refusal::Room),
-            }
-        }
-    }
+    board::may_send(sending)?;
+    let named = key_for(key, k);
+    let Sending { own, counter, .. } = sending;
+    seals::seal(named, Layer::Aps, k, counter, own, 0, f, h, out).ok_or(Refusal::Room)
 }
 
 fn seal_for(
@@ -53,17 +53,18 @@ fn seal_for(
     requires { ((2 ≤ h) × (h ≤ length f.now)) × ((length f.now ≤ longest_aps_plain ours) × ((longest ≤ length out.old) × (named k ≡ true))) }
     ensures { (b : Board) → b.links ≡ links → sending_of b ≡ sending → framed (told_sealed result) (with_outgoing b (counter_after (told_sealed result) b.outgoing)) out.new ≡ sealed_for ours b f.now out.old h k (link_of b.links a) }
 {
-    match board::link_of(links, a) {
-        Some(i) => {
-            let l = links[i];
-            let key = l.key;
-            seal_under(sending, key, k, f, h, out)
-        }
-        None => Err(Refusal::NoKey),
-    }
+    let i = board::link_of(links, a).ok_or(Refusal::NoKey)?;
+    seal_under(sending, links[i].key, k, f, h, out)
 }
 
-fn seal_read(links: [Link; 8], sending: Sending, f: &[u8], a: u64, k: u8, out: &mut [u8]) -> Result<usize, Refusal>
+fn seal_read(
+    links: [Link; 8],
+    sending: Sending,
+    f: &[u8],
+    a: u64,
+    k: u8,
+    out: &mut [u8],
+) -> Result<usize, Refusal>
     ensures { (b : Board) → b.links ≡ links → sending_of b ≡ sending → framed (told_sealed result) (with_outgoing b (counter_after (told_sealed result) b.outgoing)) out.new ≡ seal_aps ours b f.now a k out.old }
 {
     if out.len() < LONGEST {
@@ -72,28 +73,29 @@ fn seal_read(links: [Link; 8], sending: Sending, f: &[u8], a: u64, k: u8, out: &
     if LONGEST_APS_PLAIN < f.len() {
         return Err(Refusal::Long);
     }
-    match frames::read_plain(Layer::Aps, f) {
-        Err(r) => Err(r),
-        Ok(h) => {
-            if !is_named(k) {
-                return Err(Refusal::Argument);
-            }
-            seal_for(links, sending, a, k, f, h, out)
-        }
+    let h = frames::read_plain(Layer::Aps, f)?;
+    if !is_named(k) {
+        return Err(Refusal::Argument);
     }
+    seal_for(links, sending, a, k, f, h, out)
 }
 
 // Seals a plain APS frame for a partner under key identifier 0, 2 or 3: the secured frame stands at
 // the start of out, and the outgoing counter is spent. A refusal leaves the board and out as they
 // stood.
-pub fn seal_frame(board: Board, frame: &[u8], partner: u64, identifier: u8, out: &mut [u8]) -> After<usize>
+pub fn seal_frame(
+    board: Board,
+    frame: &[u8],
+    partner: u64,
+    identifier: u8,
+    out: &mut [u8],
+) -> After<usize>
     ensures { framed (told_sealed result.answer) result.board out.new ≡ seal_aps ours board frame.now partner identifier out.old }
 {
     // Made before the stages run: made behind them, it would be a second copy on the stack.
     let mut next = board;
-    let links = board.links;
     let sending = board::sending_of(board);
-    let answer = seal_read(links, sending, frame, partner, identifier, out);
+    let answer = seal_read(board.links, sending, frame, partner, identifier, out);
     next.outgoing = board::counter_after(answer, board.outgoing);
     After {
         answer,

@@ -12,3 +12,4 @@ pub mod Lengths
 pub mod Cases
 pub mod Kept
 pub mod One
+pub mod Made

@@ -3,26 +3,20 @@ use mathlib.Core.Path.{sym, ap, ◌∙◌}
 use Rattle.settings.specs.Settings.{ours}
 use Rattle.octets.specs.Keys.{the_key}
 use Rattle.answers.specs.Numbers.{told}
-use Rattle.frames.specs.declared.Layer.TheVariants.{Aps}
-use Rattle.seals.proofs.Tells.{never-nothing}
-use Rattle.aps.proofs.Sends.{refused-link, sealed-link, sealable-aps, named-most}
+use Rattle.answers.proofs.Exits.{handed-on}
+use Rattle.aps.proofs.Sends.{refused-link, sent-link, sealable-aps, named-most}
 use Rattle.aps.proofs.sealing.seal_under.Goals as goal
 
-pub returns-in-Err : goal.returns-in-Err
-returns-in-Err c =
+pub returns-in_err-may_send : goal.returns-in_err-may_send
+returns-in_err-may_send c =
     let y = c.args in
-    refused-link ours y.sending (the_key y.key) y.k y.f.now y.h y.out.now _
-    (sym c.may_send.ensures ∙ ap told c.in-Err.is)
+    rw (handed-on c.from_residual.result _ c.from_residual.ensures.1)
+    (refused-link ours y.sending (the_key y.key) y.k y.f.now y.h y.out.now _ (sym c.in_err-may_send.ensures))
 
-pub returns-in-Some : goal.returns-in-Some
-returns-in-Some c =
-    let y = c.args in
-    sealed-link ours y.sending (the_key y.key) y.k y.f.now y.h y.out.now (named-most y.k c.requires.1.1.1) ((sealable-aps ours c.args.k c.args.f.now c.args.h c.requires.1.1.1 c.requires.0.0 c.requires.0.1 c.requires.1.0))
-    c.requires.1.1.0 (sym c.may_send.ensures ∙ ap told c.in-Ok.is) _ _
-    c.in-Some.n _ c.key_for-named.ensures c.in-Some.is c.seal.ensures
-
-pub returns-in-None : goal.returns-in-None
-returns-in-None c =
-    let y = c.args in
-    never-nothing ours (the_key c.key_for-named.result) Aps y.k y.sending.counter y.sending.own 0 y.f.now y.h
-    y.out.now (named-most y.k c.requires.1.1.1) ((sealable-aps ours c.args.k c.args.f.now c.args.h c.requires.1.1.1 c.requires.0.0 c.requires.0.1 c.requires.1.0)) c.requires.1.1.0 _ _ c.in-None.is c.seal.ensures
+pub returns : goal.returns
+returns c =
+    λ b e. let y = c.args in
+    rw c.ok_or.ensures.value
+    (sent-link ours y.sending (the_key y.key) y.k y.f.now y.h y.out.now (named-most y.k c.requires.1.1.1)
+    (sealable-aps ours y.k y.f.now y.h c.requires.1.1.1 c.requires.0.0 c.requires.0.1 c.requires.1.0)
+    c.requires.1.1.0 (sym c.may_send.ensures ∙ ap told c.in_ok-may_send.was) _ _ _ c.key_for-named.ensures c.seal.ensures b e)
