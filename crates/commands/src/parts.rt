@@ -28,6 +28,7 @@ fn part_of(f: &[u8], span: Span) -> &[u8]
     &f[a..e]
 }
 
+#[tactic(auto, unfolding(crate::specs::Parts::key_in))]
 fn key_in(s: Secret) -> Span
     ensures { result ≡ key_in s }
 {
@@ -38,6 +39,7 @@ fn key_in(s: Secret) -> Span
     }
 }
 
+#[tactic(auto, unfolding(crate::specs::Parts::hash_in))]
 fn hash_in(s: Secret) -> Span
     ensures { result ≡ hash_in s }
 {
@@ -51,6 +53,7 @@ fn hash_in(s: Secret) -> Span
     }
 }
 
+#[tactic(auto, unfolding(crate::specs::Parts::key_span))]
 fn key_span(v: Result<Kind, Refusal>) -> Span
     ensures { result ≡ key_span (told_judged v) }
 {
@@ -58,12 +61,12 @@ fn key_span(v: Result<Kind, Refusal>) -> Span
         Err(_) => nowhere(),
         Ok(k) => {
             let rule = table::rule_of(k);
-            let s = rule.secret;
-            key_in(s)
+            key_in(rule.secret)
         }
     }
 }
 
+#[tactic(auto, unfolding(crate::specs::Parts::hash_span))]
 fn hash_span(v: Result<Kind, Refusal>) -> Span
     ensures { result ≡ hash_span (told_judged v) }
 {
@@ -71,13 +74,13 @@ fn hash_span(v: Result<Kind, Refusal>) -> Span
         Err(_) => nowhere(),
         Ok(k) => {
             let rule = table::rule_of(k);
-            let s = rule.secret;
-            hash_in(s)
+            hash_in(rule.secret)
         }
     }
 }
 
 // The octets from `from` to the end of a frame of n octets.
+#[tactic(auto, unfolding(crate::specs::Parts::rest_span))]
 fn rest_span(n: usize, from: usize) -> Span
     ensures { result ≡ rest_span n from }
 {
@@ -90,6 +93,7 @@ fn rest_span(n: usize, from: usize) -> Span
     }
 }
 
+#[tactic(auto, unfolding(crate::specs::Parts::tlvs_in))]
 fn tlvs_in(rest: Rest, span: Span) -> Span
     ensures { result ≡ tlvs_in rest span }
 {
@@ -101,6 +105,7 @@ fn tlvs_in(rest: Rest, span: Span) -> Span
     }
 }
 
+#[tactic(auto, unfolding(crate::specs::Parts::inner_in))]
 fn inner_in(rest: Rest, span: Span) -> Span
     ensures { result ≡ inner_in rest span }
 {
@@ -112,6 +117,7 @@ fn inner_in(rest: Rest, span: Span) -> Span
     }
 }
 
+#[tactic(auto, unfolding(crate::specs::Parts::tlvs_span))]
 fn tlvs_span(n: usize, v: Result<Kind, Refusal>) -> Span
     ensures { result ≡ tlvs_span n (told_judged v) }
 {
@@ -119,12 +125,12 @@ fn tlvs_span(n: usize, v: Result<Kind, Refusal>) -> Span
         Err(_) => nowhere(),
         Ok(k) => {
             let rule = table::rule_of(k);
-            let rest = rule.rest;
-            tlvs_in(rest, rest_span(n, 2 + rule.size))
+            tlvs_in(rule.rest, rest_span(n, 2 + rule.size))
         }
     }
 }
 
+#[tactic(auto, unfolding(crate::specs::Parts::inner_span))]
 fn inner_span(n: usize, v: Result<Kind, Refusal>) -> Span
     ensures { result ≡ inner_span n (told_judged v) }
 {
@@ -132,8 +138,7 @@ fn inner_span(n: usize, v: Result<Kind, Refusal>) -> Span
         Err(_) => nowhere(),
         Ok(k) => {
             let rule = table::rule_of(k);
-            let rest = rule.rest;
-            inner_in(rest, rest_span(n, 2 + rule.size))
+            inner_in(rule.rest, rest_span(n, 2 + rule.size))
         }
     }
 }

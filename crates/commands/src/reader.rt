@@ -14,6 +14,7 @@ use crate::{Command, Kind, Requested, Transported, kinds, table};
 use answers::Refusal;
 
 // 11 and 12 of a kind that the list has.
+#[tactic(auto, unfolding(crate::specs::Reading::judge_kind))]
 fn judge_kind(f: &[u8], p: Option<u8>, k: Kind) -> Result<Kind, Refusal>
     ensures { told_judged result ≡ judge_kind ours f.now (protection_of p) k }
 {
@@ -22,27 +23,25 @@ fn judge_kind(f: &[u8], p: Option<u8>, k: Kind) -> Result<Kind, Refusal>
     if f.len() < end {
         return Err(Refusal::Command);
     }
-    let rest = rule.rest;
-    if !table::fits_rest(rest, &f[end..]) {
+    if !table::fits_rest(rule.rest, &f[end..]) {
         return Err(Refusal::Command);
     }
-    let under = rule.under;
-    if !table::is_allowed(under, p) {
+    if !table::is_allowed(rule.under, p) {
         return Err(Refusal::Protection);
     }
     Ok(k)
 }
 
 // The identifier; a frame that ends before it, or before its type, has 0 there, which is reserved.
+#[tactic(auto, unfolding(crate::specs::Reading::judge_listed))]
 fn judge_listed(f: &[u8], p: Option<u8>) -> Result<Kind, Refusal>
     ensures { told_judged result ≡ judge_listed ours f.now (protection_of p) (listed (at f.now 2) (at f.now 3)) }
 {
-    match kinds::find_kind(octets::octet(f, 2), octets::octet(f, 3)) {
-        None => Err(Refusal::Command),
-        Some(k) => judge_kind(f, p, k),
-    }
+    let kind = kinds::find_kind(octets::octet(f, 2), octets::octet(f, 3)).ok_or(Refusal::Command)?;
+    judge_kind(f, p, kind)
 }
 
+#[tactic(auto, unfolding(crate::specs::Reading::judge, crate::specs::Reading::judge_header))]
 pub(crate) fn judge_frame(f: &[u8], p: Option<u8>) -> Result<Kind, Refusal>
     ensures { told_judged result ≡ judge ours f.now (protection_of p) }
 {
@@ -52,10 +51,8 @@ pub(crate) fn judge_frame(f: &[u8], p: Option<u8>) -> Result<Kind, Refusal>
     if settings::LONGEST_APS < f.len() {
         return Err(Refusal::Long);
     }
-    match frames::read_command(f) {
-        Err(r) => Err(r),
-        Ok(_) => judge_listed(f, p),
-    }
+    frames::read_command(f)?;
+    judge_listed(f, p)
 }
 
 fn network_key(f: &[u8]) -> Transported
@@ -69,6 +66,7 @@ fn network_key(f: &[u8]) -> Transported
 }
 
 // The command of that kind, with its numbers; 0 for what f does not have.
+#[tactic(auto, unfolding(crate::specs::Reading::command_in))]
 fn fields_of(f: &[u8], k: Kind) -> Command
     ensures { told_command result ≡ command_in f.now k }
 {
@@ -108,11 +106,10 @@ fn fields_of(f: &[u8], k: Kind) -> Command
 }
 
 // Reads the command of a plain APS frame that came under that protection.
+#[tactic(auto, unfolding(crate::specs::Reading::read_command))]
 pub fn read_command(frame: &[u8], protection: Option<u8>) -> Result<Command, Refusal>
     ensures { told_reading result ≡ read_command ours frame.now (protection_of protection) }
 {
-    match judge_frame(frame, protection) {
-        Err(r) => Err(r),
-        Ok(k) => Ok(fields_of(frame, k)),
-    }
+    let kind = judge_frame(frame, protection)?;
+    Ok(fields_of(frame, kind))
 }

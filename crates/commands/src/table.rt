@@ -1,5 +1,5 @@
 // Document 01's list of commands.
-ghost use Rattle.std.specs.Prelude.{◌≡◌};
+ghost use Rattle.std.specs.Prelude.{◌≡◌, ◌≤◌};
 ghost use Rattle.settings.specs.Settings.{ours};
 ghost use Rattle.answers.specs.Numbers.{protection_of};
 ghost use Rattle.commands.specs.Table.{rule_of, known, allows, fits, secret_size};
@@ -21,8 +21,10 @@ fn row(size: usize, secret: Secret, rest: Rest, under: Allowed) -> Rule
     }
 }
 
+#[tactic(auto, unfolding(crate::specs::Table::rule_of))]
 pub(crate) fn rule_of(k: Kind) -> Rule
-    ensures { result ≡ rule_of k }
+    ensures row { result ≡ rule_of k }
+    ensures fits { result.size ≤ 35 }
 {
     match k {
         Kind::Transport1 => row(35, Secret::Key, Rest::End, Allowed::Only(2)),
@@ -42,41 +44,26 @@ pub(crate) fn rule_of(k: Kind) -> Rule
     }
 }
 
+#[tactic(auto, unfolding(crate::specs::Table::known))]
 pub(crate) fn is_known(p: Option<u8>) -> bool
     ensures { result ≡ known (protection_of p) }
 {
-    match p {
-        None => true,
-        Some(n) => match n {
-            0 => true,
-            1 => false,
-            2 => true,
-            3 => true,
-            4..=255 => false,
-        },
-    }
+    matches!(p, None | Some(0 | 2 | 3))
 }
 
+#[tactic(auto, unfolding(crate::specs::Table::allows))]
 pub(crate) fn is_allowed(u: Allowed, p: Option<u8>) -> bool
     ensures { result ≡ allows u (protection_of p) }
 {
     match u {
-        Allowed::Clear => match p {
-            None => true,
-            Some(_) => false,
-        },
-        Allowed::Only(n) => match p {
-            None => false,
-            Some(m) => m == n,
-        },
-        Allowed::ClearOr(n) => match p {
-            None => true,
-            Some(m) => m == n,
-        },
+        Allowed::Clear => p.is_none(),
+        Allowed::Only(n) => p == Some(n),
+        Allowed::ClearOr(n) => p.is_none() || p == Some(n),
     }
 }
 
 // Whether s may follow a command's own octets.
+#[tactic(auto, unfolding(crate::specs::Table::fits))]
 pub(crate) fn fits_rest(rest: Rest, s: &[u8]) -> bool
     ensures { result ≡ fits ours rest s.now }
 {

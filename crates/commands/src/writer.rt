@@ -120,6 +120,7 @@ fn command_control(ack: bool) -> u8
 }
 
 // "after 255 comes 0"
+#[tactic(auto, unfolding(crate::specs::Writing::aps_raised))]
 fn aps_raised(b: Board) -> Board
     ensures { result ≡ aps_raised b }
 {
@@ -129,15 +130,11 @@ fn aps_raised(b: Board) -> Board
 }
 
 // Whether the parts lent are those that a command of that rule has.
+#[tactic(auto, unfolding(crate::specs::Writing::whole))]
 fn is_whole(rule: Rule, secret: &[u8], rest: &[u8]) -> bool
     ensures { result ≡ whole ours rule secret.now rest.now }
 {
-    let s = rule.secret;
-    if secret.len() != table::secret_size(s) {
-        return false;
-    }
-    let after = rule.rest;
-    table::fits_rest(after, rest)
+    secret.len() == table::secret_size(rule.secret) && table::fits_rest(rule.rest, rest)
 }
 
 // Lays control, counter, a command's own octets and the rest at the start of out.
