@@ -11,7 +11,7 @@ ghost use Rattle.aps.specs.Sealing.{named, sealed_under, sealed_for, seal_aps};
 use crate::keys::key_for;
 use answers::Refusal;
 use board::{After, Board, Link, Sending};
-use frames::Layer;
+use frames::{Auxiliary, Layer};
 use settings::{LONGEST, LONGEST_APS_PLAIN};
 
 // Whether an identifier names a key of a link entry.
@@ -37,8 +37,13 @@ fn seal_under(
 {
     board::may_send(sending)?;
     let named = key_for(key, k);
-    let Sending { own, counter, .. } = sending;
-    seals::seal(named, Layer::Aps, k, counter, own, 0, f, h, out).ok_or(Refusal::Room)
+    let aux = Auxiliary {
+        identifier: k,
+        counter: sending.counter,
+        sender: sending.own,
+        sequence: 0,
+    };
+    seals::seal(named, Layer::Aps, aux, f, h, out).ok_or(Refusal::Room)
 }
 
 fn seal_for(

@@ -32,6 +32,16 @@ pub struct Secured {
     pub sequence: u8,
 }
 
+// The auxiliary header that sealing sends. Of the identifier only the two lowest bits count, and only
+// identifier 1 sends the key sequence number.
+#[derive(Clone, Copy)]
+pub struct Auxiliary {
+    pub identifier: u8,
+    pub counter: u32,
+    pub sender: u64,
+    pub sequence: u8,
+}
+
 // A frame that is to be opened: unsecured, with so many octets of header, or secured.
 #[derive(Clone, Copy)]
 pub enum Read {

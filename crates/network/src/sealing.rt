@@ -8,7 +8,7 @@ ghost use Rattle.network.specs.Sealing.{sealed_under, sealed_by, seal_network};
 
 use answers::Refusal;
 use board::{After, Board, Sending, Slot};
-use frames::Layer;
+use frames::{Auxiliary, Layer};
 use settings::{LONGEST, LONGEST_PLAIN};
 
 fn seal_under(
@@ -22,8 +22,13 @@ fn seal_under(
     ensures { (b : Board) → sending_of b ≡ sending → framed (told_sealed result) (with_outgoing b (counter_after (told_sealed result) b.outgoing)) out.new ≡ sealed_under ours b f.now out.old h s }
 {
     board::may_send(sending)?;
-    let Sending { own, counter, .. } = sending;
-    seals::seal(s.key, Layer::Network, 1, counter, own, s.seq, f, h, out).ok_or(Refusal::Room)
+    let aux = Auxiliary {
+        identifier: 1,
+        counter: sending.counter,
+        sender: sending.own,
+        sequence: s.seq,
+    };
+    seals::seal(s.key, Layer::Network, aux, f, h, out).ok_or(Refusal::Room)
 }
 
 fn seal_active(

@@ -1,6 +1,7 @@
 -- Whether unsealing makes a frame is what `looking` says, whatever the layer and whatever the output, if it has room.
 -- Assumes nothing.
-use Rattle.std.proofs.Common.{Option}
+use Rattle.std.proofs.Common.{Option, Some, None}
+use Rattle.std.specs.Option.{is_some}
 use mathlib.Core.Path.{◌≡◌, refl, ap, ◌∙◌}
 use mathlib.Core.Bool.{Bool, true, false}
 use mathlib.Core.List.{List}
@@ -23,6 +24,10 @@ use Rattle.frames.specs.declared.Secured.{Secured}
 abbrev pub is_made : Count → Bool
 is_made (made n) = true
 is_made (refused n) = false
+
+pub made-some : (u : Option ℕ) → is_some u ≡ is_made (told_unsealed u)
+made-some (Some n) = refl
+made-some None = refl
 
 module _ (z : Settings) (k : Key) (l : Layer) (f : List ℕ) (s : Secured) (o : List ℕ) (room : longest ≤ length o) where
   pub looking-is : is_made (unsealing z k l f s o).answer ≡ looking z k f s

@@ -10,7 +10,7 @@ ghost use Rattle.seals.specs.Sealing.{sound, sent_octets, told_unsealed, told_en
 ghost use Rattle.seals.specs.Sealing.{sealing as seals_sealing};
 
 use cipher::Fault;
-use frames::{Layer, Secured};
+use frames::{Auxiliary, Layer, Secured};
 
 fn is_sound(f: &[u8], s: Secured) -> bool
     ensures { result ≡ sound ours f.now s }
@@ -78,13 +78,9 @@ fn unseal_sound(key: [u8; 16], l: Layer, f: &[u8], s: Secured, out: &mut [u8]) -
     let mut a = [0u8; settings::LONGEST];
     frames::lay_authenticated(&mut a, f, h, n);
     let nonce = frames::nonce(s.sender, s.counter, s.control);
-    match unseal_body(key, nonce, &a[..n], f, n, h, out) {
-        Ok(m) => {
-            frames::lay_plain_header(out, l, f, h);
-            Some(h + m)
-        }
-        Err(_) => None,
-    }
+    let m = unseal_body(key, nonce, &a[..n], f, n, h, out).ok()?;
+    frames::lay_plain_header(out, l, f, h);
+    Some(h + m)
 }
 
 // Whether the tag of a secured frame fits a key. It changes nothing.
@@ -92,10 +88,7 @@ pub fn look(key: [u8; 16], frame: &[u8], secured: Secured) -> bool
     ensures { result ≡ looking ours (the_key key) frame.now secured }
 {
     let mut out = [0u8; settings::LONGEST];
-    match unseal(key, Layer::Aps, frame, secured, &mut out) {
-        Some(_) => true,
-        None => false,
-    }
+    unseal(key, Layer::Aps, frame, secured, &mut out).is_some()
 }
 
 // How many octets of the auxiliary header are sent: only identifier 1 sends a key sequence number.
@@ -130,55 +123,49 @@ fn is_sealable(identifier: u8, f: &[u8], h: usize) -> bool
 pub fn seal(
     key: [u8; 16],
     layer: Layer,
-    identifier: u8,
-    counter: u32,
-    sender: u64,
-    sequence: u8,
+    aux: Auxiliary,
     frame: &[u8],
     header: usize,
     out: &mut [u8],
 ) -> Option<usize>
-    ensures { product (told_enclosed result) out.new ≡ seals_sealing ours (the_key key) layer identifier counter sender sequence frame.now header out.old }
+    ensures { product (told_enclosed result) out.new ≡ seals_sealing ours (the_key key) layer aux.identifier aux.counter aux.sender aux.sequence frame.now header out.old }
 {
-    if 3 < identifier {
+    if 3 < aux.identifier {
         return None;
     }
-    if !is_sealable(identifier, frame, header) {
+    if !is_sealable(aux.identifier, frame, header) {
         return None;
     }
     if out.len() < settings::LONGEST {
         return None;
     }
-    seal_sound(
-        key, layer, identifier, counter, sender, sequence, frame, header, out,
-    )
+    seal_sound(key, layer, aux, frame, header, out)
 }
 
 // Both headers, then the cipher's part behind them.
 fn seal_sound(
     key: [u8; 16],
     l: Layer,
-    identifier: u8,
-    counter: u32,
-    sender: u64,
-    sequence: u8,
+    aux: Auxiliary,
     f: &[u8],
     h: usize,
     out: &mut [u8],
 ) -> Option<usize>
-    requires { (identifier ≤ 3) × ((sealable ours identifier f.now h ≡ true) × (longest ≤ length out.old)) }
-    ensures { product (told_enclosed result) out.new ≡ seals_sealing ours (the_key key) l identifier counter sender sequence f.now h out.old }
+    requires { (aux.identifier ≤ 3) × ((sealable ours aux.identifier f.now h ≡ true) × (longest ≤ length out.old)) }
+    ensures { product (told_enclosed result) out.new ≡ seals_sealing ours (the_key key) l aux.identifier aux.counter aux.sender aux.sequence f.now h out.old }
 {
-    let n = h + sent_octets(identifier);
+    let n = h + sent_octets(aux.identifier);
     frames::lay_secured_header(out, l, f, h);
-    frames::lay_auxiliary(out, h, identifier, counter, sender, sequence);
+    frames::lay_auxiliary(out, h, aux);
     let mut a = [0u8; settings::LONGEST];
     frames::lay_authenticated(&mut a, out, h, n);
-    let nonce = frames::nonce(sender, counter, frames::wire_control(identifier));
-    match seal_body(key, nonce, &a[..n], f, h, n, out) {
-        Ok(m) => Some(n + m),
-        Err(_) => None,
-    }
+    let nonce = frames::nonce(
+        aux.sender,
+        aux.counter,
+        frames::wire_control(aux.identifier),
+    );
+    let m = seal_body(key, nonce, &a[..n], f, h, n, out).ok()?;
+    Some(n + m)
 }
 
 // The cipher's part, which writes behind n octets of out.

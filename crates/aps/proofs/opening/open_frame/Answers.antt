@@ -31,7 +31,7 @@ returns-after-heard c =
     let h = c.in-Ok.heard in
     let left : c.match-heard.next ≡ raised_in b h.raised =
     elim c.match-heard.branch [
-      in-Some w ↦ w.next-is ∙ sym (ap (raised_in b) w.in-Some.is)
-    | in_default w ↦ w.next-is ∙ sym (ap (raised_in b) w.in_default.is)
+      | in-Some w ↦ w.next-is ∙ sym (ap (raised_in b) w.in-Some.is)
+      | in_default w ↦ w.next-is ∙ sym (ap (raised_in b) w.in_default.is)
     ] in
     ap (λ (x : Board). framed (told_opened (Ok h.opened)) x c.open_read.new.out) left ∙ c.in-Ok.ensures.out_after b refl

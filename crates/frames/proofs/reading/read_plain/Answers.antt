@@ -1,16 +1,14 @@
 -- Each refusal is the definition's test of the same place.
 use mathlib.Core.Path.{sym, ap, ◌∙◌}
 use borrow.Author.Tests.{lt-ltb, le-ltb}
-use Rattle.std.proofs.lemmas.Result.{err_from_is_err_and}
+use Rattle.answers.proofs.Exits.{handed-on}
 use Rattle.frames.specs.Code.{told_heading}
 use Rattle.frames.specs.Reading.{reading_plain}
 use Rattle.frames.proofs.reading.read_plain.Goals as goal
 
 pub returns-in_err-heading : goal.returns-in_err-heading
 unfolding reading_plain
-returns-in_err-heading c =
-    let e = err_from_is_err_and c.from_residual.result c.from_residual.ensures.1 in
-    simp (sym c.in_err-heading.ensures, e.1, e.2)
+returns-in_err-heading c = rw (handed-on c.from_residual.result _ c.from_residual.ensures.1) (simp (sym c.in_err-heading.ensures))
 
 pub returns-then-heading : goal.returns-then-heading
 unfolding reading_plain
