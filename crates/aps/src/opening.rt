@@ -1,18 +1,19 @@
 // Opening, in document 01's order of judgement.
-ghost use Rattle.std.specs.Prelude.{◌≡◌, true, ◌≤◌, ◌<◌, length};
+ghost use Rattle.std.specs.Prelude.{◌≡◌, ◌≤◌, ◌<◌, length};
 ghost use Rattle.settings.specs.Settings.{ours, longest, top};
 ghost use Rattle.answers.specs.Numbers.{told_opened};
 ghost use Rattle.board.specs.State.{link_at};
 ghost use Rattle.board.specs.Requests.{link_of};
 ghost use Rattle.board.specs.Sending.{framed};
-ghost use Rattle.seals.specs.Sealing.{message_of, sound};
+ghost use Rattle.seals.specs.Sealing.{message_of};
 ghost use Rattle.aps.specs.Opening.{key_named, admitted, opened_under, opened_keyed, open_aps};
 ghost use Rattle.aps.specs.Code.{heard, RaisesEntry};
 
 use crate::keys::{identifier, key_named};
 use answers::{Opened, Refusal};
 use board::{After, Board, Link};
-use frames::{Layer, Read, Secured};
+use frames::{Layer, Read};
+use seals::Incoming;
 use settings::{LONGEST, LONGEST_APS, TOP};
 
 // What a stage tells of a frame that opened, and the floor that it raises; an unsecured frame raises
@@ -32,46 +33,50 @@ struct Raised {
 }
 
 // The tag is judged before the floor is touched.
-fn admit(l: Link, i: usize, f: &[u8], s: Secured, out: &mut [u8]) -> Result<Heard, Refusal>
-    requires { (sound ours f.now s ≡ true) × ((longest ≤ length out.old) × ((s.counter < top) × (i < 8))) }
-    ensures out_after { (b : Board) → link_at b.links i ≡ l → heard b result out.new ≡ admitted b f.now s out.old i (message_of ours (key_named l s) f.now s) }
+fn admit(l: Link, i: usize, x: Incoming, out: &mut [u8]) -> Result<Heard, Refusal>
+    requires room { longest ≤ length out.old }
+    requires below_top { x.secured.counter < top }
+    requires entry { i < 8 }
+    ensures out_after { (b : Board) → link_at b.links i ≡ l → heard b result out.new ≡ admitted b x.entry.frame.now x.entry.secured out.old i (message_of ours (key_named l x.entry.secured) x.entry.frame.now x.entry.secured) }
     ensures in_bounds { RaisesEntry result }
 {
-    let length = seals::unseal(key_named(l, s), Layer::Aps, f, s, out).ok_or(Refusal::Forged)?;
+    let key = key_named(l, x.secured);
+    let length = seals::unseal(key, Layer::Aps, x.frame, x.secured, out).ok_or(Refusal::Forged)?;
     Ok(Heard {
         opened: Opened {
             length,
-            sender: s.sender,
-            protection: Some(identifier(s)),
+            sender: x.secured.sender,
+            protection: Some(identifier(x.secured)),
         },
         raised: Some(Raised {
             entry: i,
-            floor: s.counter + 1,
+            floor: x.secured.counter + 1,
         }),
     })
 }
 
-fn open_under(l: Link, i: usize, f: &[u8], s: Secured, out: &mut [u8]) -> Result<Heard, Refusal>
-    requires { (sound ours f.now s ≡ true) × ((longest ≤ length out.old) × (i < 8)) }
-    ensures out_after { (b : Board) → link_at b.links i ≡ l → heard b result out.new ≡ opened_under ours b f.now s out.old i }
+fn open_under(l: Link, i: usize, x: Incoming, out: &mut [u8]) -> Result<Heard, Refusal>
+    requires room { longest ≤ length out.old }
+    requires entry { i < 8 }
+    ensures out_after { (b : Board) → link_at b.links i ≡ l → heard b result out.new ≡ opened_under ours b x.entry.frame.now x.entry.secured out.old i }
     ensures in_bounds { RaisesEntry result }
 {
-    if s.counter == TOP {
+    if x.secured.counter == TOP {
         return Err(Refusal::Top);
     }
-    if s.counter < l.floor {
+    if x.secured.counter < l.floor {
         return Err(Refusal::Stale);
     }
-    admit(l, i, f, s, out)
+    admit(l, i, x, out)
 }
 
-fn open_keyed(links: [Link; 8], f: &[u8], s: Secured, out: &mut [u8]) -> Result<Heard, Refusal>
-    requires { (sound ours f.now s ≡ true) × (longest ≤ length out.old) }
-    ensures out_after { (b : Board) → b.links ≡ links → heard b result out.new ≡ opened_keyed ours b f.now s out.old (link_of b.links s.sender) }
+fn open_keyed(links: [Link; 8], x: Incoming, out: &mut [u8]) -> Result<Heard, Refusal>
+    requires { longest ≤ length out.old }
+    ensures out_after { (b : Board) → b.links ≡ links → heard b result out.new ≡ opened_keyed ours b x.entry.frame.now x.entry.secured out.old (link_of b.links x.entry.secured.sender) }
     ensures in_bounds { RaisesEntry result }
 {
-    let i = board::link_of(links, s.sender).ok_or(Refusal::NoKey)?;
-    open_under(links[i], i, f, s, out)
+    let i = board::link_of(links, x.secured.sender).ok_or(Refusal::NoKey)?;
+    open_under(links[i], i, x, out)
 }
 
 fn open_read(links: [Link; 8], f: &[u8], given: u64, out: &mut [u8]) -> Result<Heard, Refusal>
@@ -96,7 +101,7 @@ fn open_read(links: [Link; 8], f: &[u8], given: u64, out: &mut [u8]) -> Result<H
                 raised: None,
             })
         }
-        Read::Secured(s) => open_keyed(links, f, s, out),
+        Read::Secured(secured) => open_keyed(links, Incoming { frame: f, secured }, out),
     }
 }
 

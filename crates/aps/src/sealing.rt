@@ -12,6 +12,7 @@ use crate::keys::key_for;
 use answers::Refusal;
 use board::{After, Board, Link, Sending};
 use frames::{Auxiliary, Layer};
+use seals::Outgoing;
 use settings::{LONGEST, LONGEST_APS_PLAIN};
 
 // Whether an identifier names a key of a link entry.
@@ -28,12 +29,11 @@ fn seal_under(
     sending: Sending,
     key: [u8; 16],
     k: u8,
-    f: &[u8],
-    h: usize,
+    x: Outgoing,
     out: &mut [u8],
 ) -> Result<usize, Refusal>
-    requires { ((2 ≤ h) × (h ≤ length f.now)) × ((length f.now ≤ longest_aps_plain ours) × ((longest ≤ length out.old) × (named k ≡ true))) }
-    ensures { (b : Board) → sending_of b ≡ sending → framed (told_sealed result) (with_outgoing b (counter_after (told_sealed result) b.outgoing)) out.new ≡ sealed_under ours b f.now out.old h k (the_key key) }
+    requires { (length x.frame.now ≤ longest_aps_plain ours) × ((longest ≤ length out.old) × (named k ≡ true)) }
+    ensures { (b : Board) → sending_of b ≡ sending → framed (told_sealed result) (with_outgoing b (counter_after (told_sealed result) b.outgoing)) out.new ≡ sealed_under ours b x.entry.frame.now out.old x.entry.header k (the_key key) }
 {
     board::may_send(sending)?;
     let named = key_for(key, k);
@@ -43,7 +43,7 @@ fn seal_under(
         sender: sending.own,
         sequence: 0,
     };
-    seals::seal(named, Layer::Aps, aux, f, h, out).ok_or(Refusal::Room)
+    seals::seal(named, Layer::Aps, aux, x.frame, x.header, out).ok_or(Refusal::Room)
 }
 
 fn seal_for(
@@ -51,15 +51,14 @@ fn seal_for(
     sending: Sending,
     a: u64,
     k: u8,
-    f: &[u8],
-    h: usize,
+    x: Outgoing,
     out: &mut [u8],
 ) -> Result<usize, Refusal>
-    requires { ((2 ≤ h) × (h ≤ length f.now)) × ((length f.now ≤ longest_aps_plain ours) × ((longest ≤ length out.old) × (named k ≡ true))) }
-    ensures { (b : Board) → b.links ≡ links → sending_of b ≡ sending → framed (told_sealed result) (with_outgoing b (counter_after (told_sealed result) b.outgoing)) out.new ≡ sealed_for ours b f.now out.old h k (link_of b.links a) }
+    requires { (length x.frame.now ≤ longest_aps_plain ours) × ((longest ≤ length out.old) × (named k ≡ true)) }
+    ensures { (b : Board) → b.links ≡ links → sending_of b ≡ sending → framed (told_sealed result) (with_outgoing b (counter_after (told_sealed result) b.outgoing)) out.new ≡ sealed_for ours b x.entry.frame.now out.old x.entry.header k (link_of b.links a) }
 {
     let i = board::link_of(links, a).ok_or(Refusal::NoKey)?;
-    seal_under(sending, links[i].key, k, f, h, out)
+    seal_under(sending, links[i].key, k, x, out)
 }
 
 fn seal_read(
@@ -82,7 +81,11 @@ fn seal_read(
     if !is_named(k) {
         return Err(Refusal::Argument);
     }
-    seal_for(links, sending, a, k, f, h, out)
+    let x = Outgoing {
+        frame: f,
+        header: h,
+    };
+    seal_for(links, sending, a, k, x, out)
 }
 
 // Seals a plain APS frame for a partner under key identifier 0, 2 or 3: the secured frame stands at

@@ -9,17 +9,12 @@ ghost use Rattle.network.specs.Sealing.{sealed_under, sealed_by, seal_network};
 use answers::Refusal;
 use board::{After, Board, Sending, Slot};
 use frames::{Auxiliary, Layer};
+use seals::Outgoing;
 use settings::{LONGEST, LONGEST_PLAIN};
 
-fn seal_under(
-    sending: Sending,
-    s: Slot,
-    f: &[u8],
-    h: usize,
-    out: &mut [u8],
-) -> Result<usize, Refusal>
-    requires { ((2 ≤ h) × (h ≤ length f.now)) × ((length f.now ≤ longest_plain ours) × (longest ≤ length out.old)) }
-    ensures { (b : Board) → sending_of b ≡ sending → framed (told_sealed result) (with_outgoing b (counter_after (told_sealed result) b.outgoing)) out.new ≡ sealed_under ours b f.now out.old h s }
+fn seal_under(sending: Sending, s: Slot, x: Outgoing, out: &mut [u8]) -> Result<usize, Refusal>
+    requires { (length x.frame.now ≤ longest_plain ours) × (longest ≤ length out.old) }
+    ensures { (b : Board) → sending_of b ≡ sending → framed (told_sealed result) (with_outgoing b (counter_after (told_sealed result) b.outgoing)) out.new ≡ sealed_under ours b x.entry.frame.now out.old x.entry.header s }
 {
     board::may_send(sending)?;
     let aux = Auxiliary {
@@ -28,19 +23,18 @@ fn seal_under(
         sender: sending.own,
         sequence: s.seq,
     };
-    seals::seal(s.key, Layer::Network, aux, f, h, out).ok_or(Refusal::Room)
+    seals::seal(s.key, Layer::Network, aux, x.frame, x.header, out).ok_or(Refusal::Room)
 }
 
 fn seal_active(
     slots: [Slot; 2],
     i: usize,
     sending: Sending,
-    f: &[u8],
-    h: usize,
+    x: Outgoing,
     out: &mut [u8],
 ) -> Result<usize, Refusal>
-    requires { ((2 ≤ h) × (h ≤ length f.now)) × ((length f.now ≤ longest_plain ours) × (longest ≤ length out.old)) }
-    ensures { (b : Board) → b.slots ≡ slots → sending_of b ≡ sending → framed (told_sealed result) (with_outgoing b (counter_after (told_sealed result) b.outgoing)) out.new ≡ sealed_by ours b f.now out.old h (Some i) }
+    requires { (length x.frame.now ≤ longest_plain ours) × (longest ≤ length out.old) }
+    ensures { (b : Board) → b.slots ≡ slots → sending_of b ≡ sending → framed (told_sealed result) (with_outgoing b (counter_after (told_sealed result) b.outgoing)) out.new ≡ sealed_by ours b x.entry.frame.now out.old x.entry.header (Some i) }
 {
     if 1 < i {
         return Err(Refusal::NoKey);
@@ -49,23 +43,22 @@ fn seal_active(
     if !s.present {
         return Err(Refusal::NoKey);
     }
-    seal_under(sending, s, f, h, out)
+    seal_under(sending, s, x, out)
 }
 
 fn seal_by(
     slots: [Slot; 2],
     active: Option<usize>,
     sending: Sending,
-    f: &[u8],
-    h: usize,
+    x: Outgoing,
     out: &mut [u8],
 ) -> Result<usize, Refusal>
-    requires { ((2 ≤ h) × (h ≤ length f.now)) × ((length f.now ≤ longest_plain ours) × (longest ≤ length out.old)) }
-    ensures { (b : Board) → b.slots ≡ slots → sending_of b ≡ sending → framed (told_sealed result) (with_outgoing b (counter_after (told_sealed result) b.outgoing)) out.new ≡ sealed_by ours b f.now out.old h active }
+    requires { (length x.frame.now ≤ longest_plain ours) × (longest ≤ length out.old) }
+    ensures { (b : Board) → b.slots ≡ slots → sending_of b ≡ sending → framed (told_sealed result) (with_outgoing b (counter_after (told_sealed result) b.outgoing)) out.new ≡ sealed_by ours b x.entry.frame.now out.old x.entry.header active }
 {
     match active {
         None => Err(Refusal::NoKey),
-        Some(i) => seal_active(slots, i, sending, f, h, out),
+        Some(i) => seal_active(slots, i, sending, x, out),
     }
 }
 
@@ -85,7 +78,11 @@ fn seal_read(
         return Err(Refusal::Long);
     }
     let h = frames::read_plain(Layer::Network, f)?;
-    seal_by(slots, active, sending, f, h, out)
+    let x = Outgoing {
+        frame: f,
+        header: h,
+    };
+    seal_by(slots, active, sending, x, out)
 }
 
 // Seals a plain network frame under the active key: the secured frame stands at the start of out,

@@ -12,6 +12,23 @@ ghost use Rattle.seals.specs.Sealing.{sealing as seals_sealing};
 use cipher::Fault;
 use frames::{Auxiliary, Layer, Secured};
 
+// A secured frame that has what it announces: both headers and the tag, a header that has the security
+// bit, and no more than 116 octets.
+#[derive(Clone, Copy)]
+pub struct Incoming<'a> {
+    pub frame: &'a [u8],
+    pub secured: Secured,
+    ghost fits: { sound ours frame.now secured ≡ true },
+}
+
+// A plain frame that is to be sealed, with so many octets of header.
+#[derive(Clone, Copy)]
+pub struct Outgoing<'a> {
+    pub frame: &'a [u8],
+    pub header: usize,
+    ghost headed: { (2 ≤ header) × (header ≤ length frame.now) },
+}
+
 fn is_sound(f: &[u8], s: Secured) -> bool
     ensures { result ≡ sound ours f.now s }
 {

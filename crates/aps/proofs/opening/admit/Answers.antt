@@ -17,10 +17,10 @@ returns-in_err-length c =
     let x = c.in_err-length.ensures in
     rw (none-handed-on c.unseal.result c.from_residual.result _ _ c.from_residual.ensures.1 x.value x.ok_part)
     (record {
-      out_after = λ b el. admit-forged ours ours-fair _ y.f.now y.s y.out.now y.i c.requires.0 c.requires.1.0 _ _
+      out_after = λ b el. admit-forged ours ours-fair _ y.x.frame.now y.x.secured y.out.now y.i y.x.fits c.requires.room _ _
           x.ok_part c.unseal.ensures b ∙ ap
-          (λ (k : Key). admitted b y.f.now y.s y.out.now y.i (message_of ours k y.f.now y.s))
-          c.key_named.ensures;
+          (λ (k : Key). admitted b y.x.frame.now y.x.secured y.out.now y.i (message_of ours k y.x.frame.now y.x.secured))
+          c.key_named-key.ensures;
       in_bounds = search rules;
     })
 
@@ -28,9 +28,9 @@ pub returns : goal.returns
 returns c =
     let y = c.args in
     record {
-      out_after = λ b el. admit-plain ours ours-fair _ y.f.now y.s y.out.now y.i c.requires.0 c.requires.1.0 _ _
+      out_after = λ b el. admit-plain ours ours-fair _ y.x.frame.now y.x.secured y.out.now y.i y.x.fits c.requires.room _ _
           _ _ (c.ok_or.ensures.ok_part ∙ ap result_ok c.in_ok-length.was) c.unseal.ensures c.identifier.ensures b ∙ ap
-          (λ (k : Key). admitted b y.f.now y.s y.out.now y.i (message_of ours k y.f.now y.s))
-          c.key_named.ensures;
+          (λ (k : Key). admitted b y.x.frame.now y.x.secured y.out.now y.i (message_of ours k y.x.frame.now y.x.secured))
+          c.key_named-key.ensures;
       in_bounds = search rules;
     }

@@ -24,7 +24,7 @@ bounds-links-i c = link-place _ _ _ (sym c.link_of.ensures ∙ c.ok_or.ensures.o
 pub open_under-requires : goal.open_under-requires
 open_under-requires c =
     let there = sym c.link_of.ensures ∙ c.ok_or.ensures.ok_part ∙ ap result_ok c.in_ok-i.was in
-    (c.requires.0, (c.requires.1, link-place _ _ _ there))
+    record { room = c.requires; entry = link-place _ _ _ there }
 
 pub returns-in_err-i : goal.returns-in_err-i
 unfolding opened_keyed
@@ -32,7 +32,7 @@ returns-in_err-i c =
     let x = c.in_err-i.ensures in
     rw (none-handed-on c.link_of.result c.from_residual.result _ _ c.from_residual.ensures.1 x.value x.ok_part)
     (record {
-      out_after = λ b el. simp (ap (λ (l : List Link). link_of l c.args.s.sender) el ∙ sym c.link_of.ensures ∙ x.ok_part);
+      out_after = λ b el. simp (ap (λ (l : List Link). link_of l c.args.x.secured.sender) el ∙ sym c.link_of.ensures ∙ x.ok_part);
       in_bounds = search rules;
     })
 
@@ -41,7 +41,7 @@ unfolding opened_keyed
 returns c =
     let there = c.ok_or.ensures.ok_part ∙ ap result_ok c.in_ok-i.was in
     record {
-      out_after = λ b el. simp (ap (λ (l : List Link). link_of l c.args.s.sender) el ∙ sym c.link_of.ensures ∙ there)
+      out_after = λ b el. simp (ap (λ (l : List Link). link_of l c.args.x.secured.sender) el ∙ sym c.link_of.ensures ∙ there)
           (c.open_under.ensures.out_after b (ap (λ (l : List Link). link_at l c.in_ok-i.i) el));
       in_bounds = c.open_under.ensures.in_bounds;
     }

@@ -27,12 +27,10 @@ returns-then-f-gt-LONGEST_APS c =
       in_bounds = search rules;
     }
 
-pub open_keyed-requires : goal.open_keyed-requires
-open_keyed-requires c = (
-  read-sound ours c.args.f.now c.args.given _
-      (sym c.read_frame.ensures ∙ ap told_read (c.in_ok-read_frame.was ∙ ap Ok c.in-Secured.is)) c.if-f-gt-LONGEST_APS.false,
-  c.if-out-lt-LONGEST.false,
-)
+pub invariant_of-open_keyed : goal.invariant_of-open_keyed
+invariant_of-open_keyed c =
+    let told = sym c.read_frame.ensures ∙ ap told_read (c.in_ok-read_frame.was ∙ ap Ok c.in-Secured.is) in
+    record { fits = read-sound ours c.args.f.now c.args.given _ told c.if-f-gt-LONGEST_APS.false }
 
 pub returns-in_err-read_frame : goal.returns-in_err-read_frame
 unfolding open_aps opened_read

@@ -38,4 +38,4 @@ returns c =
     let there = c.ok_or.ensures.ok_part ∙ ap result_ok c.in_ok-i.was in
     simp (ap (λ (l : List Link). link_of l y.a) el ∙ sym c.link_of.ensures ∙ there)
     (c.seal_under.ensures b es
-    ∙ ap (λ (l : List Link). sealed_under ours b y.f.now y.out.now y.h y.k (the_key (link_at l c.in_ok-i.i).key)) (sym el))
+    ∙ ap (λ (l : List Link). sealed_under ours b y.x.frame.now y.out.now y.x.header y.k (the_key (link_at l c.in_ok-i.i).key)) (sym el))

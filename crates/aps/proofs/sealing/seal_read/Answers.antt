@@ -25,10 +25,14 @@ returns-then-not-is_named c =
       sym c.is_named.ensures ∙ c.if-not-is_named.true,
     )
 
+pub invariant_of-x : goal.invariant_of-x
+invariant_of-x c =
+    record { headed = plain-bounds c.args.f.now _ (sym c.read_plain.ensures ∙ ap told_plain c.in_ok-h.was) }
+
 pub seal_for-requires : goal.seal_for-requires
 seal_for-requires c = (
-  plain-bounds c.args.f.now _ (sym c.read_plain.ensures ∙ ap told_plain c.in_ok-h.was),
-  (c.if-f-gt-LONGEST_APS_PLAIN.false, (c.if-out-lt-LONGEST.false, sym c.is_named.ensures ∙ c.if-not-is_named.false)),
+  c.if-f-gt-LONGEST_APS_PLAIN.false,
+  (c.if-out-lt-LONGEST.false, sym c.is_named.ensures ∙ c.if-not-is_named.false),
 )
 
 pub returns-in_err-h : goal.returns-in_err-h

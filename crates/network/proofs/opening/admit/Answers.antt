@@ -15,12 +15,12 @@ returns-in_err-length c =
     let w = lent y.addrs.now y.floors.now y.out.now in
     let x = c.in_err-length.ensures in
     rw (none-handed-on c.unseal.result c.from_residual.result _ _ c.from_residual.ensures.1 x.value x.ok_part)
-    (admit-forged ours (the_key y.key) y.f.now y.s ours-fair w c.requires.s_value.0 c.requires.s_value.1.0 _ _ _
+    (admit-forged ours (the_key y.key) y.x.frame.now y.x.secured ours-fair w c.args.x.fits c.requires.room _ _ _
     x.ok_part c.unseal.ensures)
 
 pub returns : goal.returns
 returns c =
     let y = c.args in
     let w = lent y.addrs.now y.floors.now y.out.now in
-    admit-plain ours (the_key y.key) y.f.now y.s ours-fair w c.requires.s_value.0 c.requires.s_value.1.0 _
+    admit-plain ours (the_key y.key) y.x.frame.now y.x.secured ours-fair w c.args.x.fits c.requires.room _
     c.in_ok-length.length y.r _ (c.ok_or.ensures.ok_part ∙ ap result_ok c.in_ok-length.was) c.unseal.ensures

@@ -28,13 +28,15 @@ pub returns-then-frame-gt-LONGEST : goal.returns-then-frame-gt-LONGEST
 unfolding open_network
 returns-then-frame-gt-LONGEST c = simp ((le-leb _ _ c.if-out-lt-LONGEST.false), (sym c.lists_fit.ensures ∙ c.if-not-lists_fit.false), lt-ltb _ _ c.if-frame-gt-LONGEST.true)
 
+pub invariant_of-x : goal.invariant_of-x
+invariant_of-x c =
+    let told = sym c.read_frame.ensures ∙ ap told_read (c.in_ok-read_frame.was ∙ ap Ok c.in-Secured.is) in
+    record { fits = read-sound ours c.args.frame.now _ told c.if-frame-gt-LONGEST.false }
+
 pub open_keyed-requires : goal.open_keyed-requires
 open_keyed-requires c =
-    let long = lists-long _ ((sym c.lists_fit.ensures ∙ c.if-not-lists_fit.false)) in (
-      read-sound ours c.args.frame.now _ (sym c.read_frame.ensures ∙ ap told_read (c.in_ok-read_frame.was ∙ ap Ok c.in-Secured.is))
-          c.if-frame-gt-LONGEST.false,
-      (c.if-out-lt-LONGEST.false, long.0 ∙ sym long.1),
-    )
+    let long = lists-long _ ((sym c.lists_fit.ensures ∙ c.if-not-lists_fit.false)) in
+    record { room = c.if-out-lt-LONGEST.false; same_length = long.0 ∙ sym long.1 }
 
 pub returns-in_err-read_frame : goal.returns-in_err-read_frame
 unfolding open_network opened_read

@@ -19,7 +19,7 @@ bounds-slots-i c = slot-place _ _ _ (sym c.slot_of.ensures ∙ c.ok_or.ensures.o
 pub open_under-requires : goal.open_under-requires
 open_under-requires c =
     let place = slot-place _ _ _ (sym c.slot_of.ensures ∙ c.ok_or.ensures.ok_part ∙ ap result_ok c.in_ok-i.was) in
-    record { s_value = (c.requires.0, c.requires.1.0); i_bound = (place, c.requires.1.1) }
+    record { room = c.requires.room; slot = place; same_length = c.requires.same_length }
 
 pub returns-in_err-i : goal.returns-in_err-i
 unfolding opened_keyed

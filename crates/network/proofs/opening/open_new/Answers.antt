@@ -6,12 +6,12 @@ use Rattle.board.proofs.Halves.{slot-start}
 use Rattle.network.proofs.opening.open_new.Goals as goal
 
 pub overflow_mul-i : goal.overflow_mul-i
-overflow_mul-i c = record { fits = omega (arith, slot-start c.args.rows c.args.i c.requires.i_bound.0) }
+overflow_mul-i c = record { fits = omega (arith, slot-start c.args.rows c.args.i c.requires.slot) }
 
 pub admit-requires : goal.admit-requires
 admit-requires c =
     let there = row-place _ _ _ _ _ (sym c.in-Some.ensures) in
-    record { s_value = c.requires.s_value; r_in_bounds = (there, omega (arith, there, c.requires.i_bound.1)) }
+    record { room = c.requires.room; below_top = c.requires.below_top; r_in_bounds = (there, omega (arith, there, c.requires.same_length)) }
 
 pub returns-in-Some : goal.returns-in-Some
 returns-in-Some c = simp (sym c.in-Some.ensures) c.admit.ensures

@@ -17,12 +17,12 @@ unfolding seal_network
 returns-then-f-gt-LONGEST_PLAIN c =
     λ b es ea en. simp (le-ltb _ _ c.if-out-lt-LONGEST.false, lt-ltb _ _ c.if-f-gt-LONGEST_PLAIN.true)
 
+pub invariant_of-x : goal.invariant_of-x
+invariant_of-x c =
+    record { headed = plain-bounds c.args.f.now _ (sym c.read_plain.ensures ∙ ap told_plain c.in_ok-h.was) }
+
 pub seal_by-requires : goal.seal_by-requires
-seal_by-requires c = (
-  plain-bounds c.args.f.now _
-      (sym c.read_plain.ensures ∙ ap told_plain c.in_ok-h.was),
-  (c.if-f-gt-LONGEST_PLAIN.false, c.if-out-lt-LONGEST.false),
-)
+seal_by-requires c = (c.if-f-gt-LONGEST_PLAIN.false, c.if-out-lt-LONGEST.false)
 
 pub returns-in_err-h : goal.returns-in_err-h
 unfolding seal_network sealed_read

@@ -11,12 +11,12 @@ pub returns-in_err-may_send : goal.returns-in_err-may_send
 returns-in_err-may_send c =
     let y = c.args in
     rw (handed-on c.from_residual.result _ c.from_residual.ensures.1)
-    (refused-slot ours y.sending y.s y.f.now y.h y.out.now _ (sym c.in_err-may_send.ensures))
+    (refused-slot ours y.sending y.s y.x.frame.now y.x.header y.out.now _ (sym c.in_err-may_send.ensures))
 
 pub returns : goal.returns
 returns c =
     λ b e. let y = c.args in
     rw c.ok_or.ensures.value
-    (sent-slot ours y.sending y.s y.f.now y.h y.out.now ours-fair
-    (sealable-net ours ours-fair y.f.now y.h c.requires.0.0 c.requires.0.1 c.requires.1.0) c.requires.1.1
+    (sent-slot ours y.sending y.s y.x.frame.now y.x.header y.out.now ours-fair
+    (sealable-net ours ours-fair y.x.frame.now y.x.header c.args.x.headed.0 c.args.x.headed.1 c.requires.0) c.requires.1
     (sym c.may_send.ensures ∙ ap told c.in_ok-may_send.was) _ _ c.seal.ensures b e)
