@@ -14,14 +14,15 @@ use borrow.Author.Tests.{leb-true, eqb-false, not-true}
 use Rattle.settings.specs.Settings.{Settings, longest, aps_aux, longest_aps_plain}
 use Rattle.octets.specs.Keys.{Key}
 use Rattle.octets.proofs.Choices.{both-parts}
-use Rattle.answers.specs.Numbers.{done, refused, sealed, turned_down, told_sealed}
+use Rattle.answers.specs.Numbers.{done, refused, sealed, turned_down}
 use Rattle.cipher.specs.Answers.{product}
 use Rattle.frames.specs.declared.Layer.TheVariants.{Aps}
 use Rattle.frames.specs.Reading.{headed, reading_plain}
 use Rattle.frames.proofs.Found.{plain-to-seal}
 use Rattle.board.specs.declared.Board.{Board}
 use Rattle.board.specs.declared.Sending.{Sending}
-use Rattle.board.specs.Sending.{raised, with_outgoing, counter_after, spent, framed, sending_of, may_send, send}
+use Rattle.board.specs.Sending.{raised, with_outgoing, spent, framed, sending_of, may_send, send}
+use Rattle.board.specs.Code.{sent}
 use Rattle.board.proofs.Sends.{send-refused, send-done}
 use Rattle.seals.specs.Sealing.{sent_octets, sealed_frame, sealing, told_enclosed}
 use Rattle.seals.proofs.Again.{Suited}
@@ -72,7 +73,7 @@ module _ (z : Settings) (s : Sending) (key : Key) (k : ℕ) (f : List ℕ) (h : 
   pub sent-link : k ≤ 3 → Sealable z k f h → longest ≤ length o → may_send s ≡ done
       → (x : Key) (w : Option ℕ) (p : List ℕ) → x ≡ key_for key k
       → product (told_enclosed w) p ≡ sealing z x Aps k s.counter s.own 0 f h o → (b : Board) → sending_of b ≡ s
-      → framed (told_sealed (ok_or w Room)) (with_outgoing b (counter_after (told_sealed (ok_or w Room)) b.outgoing)) p
+      → sent b (ok_or w Room) p
       ≡ sealed_under z b f o h k key
   sent-link low fits room may x (Some m) p ex e b eb = sealed-link low fits room may x (Some m) m p ex refl e b eb
   sent-link low fits room may x None p ex e b eb =

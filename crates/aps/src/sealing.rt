@@ -5,7 +5,8 @@ ghost use Rattle.settings.specs.Settings.{ours, longest, longest_aps_plain};
 ghost use Rattle.octets.specs.Keys.{the_key};
 ghost use Rattle.answers.specs.Numbers.{told_sealed};
 ghost use Rattle.board.specs.Requests.{link_of};
-ghost use Rattle.board.specs.Sending.{with_outgoing, counter_after, framed, sending_of};
+ghost use Rattle.board.specs.Sending.{framed, sending_of};
+ghost use Rattle.board.specs.Code.{sent};
 ghost use Rattle.aps.specs.Sealing.{named, sealed_under, sealed_for, seal_aps};
 
 use crate::keys::key_for;
@@ -33,7 +34,7 @@ fn seal_under(
     out: &mut [u8],
 ) -> Result<usize, Refusal>
     requires { (length x.frame.now ≤ longest_aps_plain ours) × ((longest ≤ length out.old) × (named k ≡ true)) }
-    ensures { (b : Board) → sending_of b ≡ sending → framed (told_sealed result) (with_outgoing b (counter_after (told_sealed result) b.outgoing)) out.new ≡ sealed_under ours b x.entry.frame.now out.old x.entry.header k (the_key key) }
+    ensures { (b : Board) → sending_of b ≡ sending → sent b result out.new ≡ sealed_under ours b x.entry.frame.now out.old x.entry.header k (the_key key) }
 {
     board::may_send(sending)?;
     let named = key_for(key, k);
@@ -55,7 +56,7 @@ fn seal_for(
     out: &mut [u8],
 ) -> Result<usize, Refusal>
     requires { (length x.frame.now ≤ longest_aps_plain ours) × ((longest ≤ length out.old) × (named k ≡ true)) }
-    ensures { (b : Board) → b.links ≡ links → sending_of b ≡ sending → framed (told_sealed result) (with_outgoing b (counter_after (told_sealed result) b.outgoing)) out.new ≡ sealed_for ours b x.entry.frame.now out.old x.entry.header k (link_of b.links a) }
+    ensures { (b : Board) → b.links ≡ links → sending_of b ≡ sending → sent b result out.new ≡ sealed_for ours b x.entry.frame.now out.old x.entry.header k (link_of b.links a) }
 {
     let i = board::link_of(links, a).ok_or(Refusal::NoKey)?;
     seal_under(sending, links[i].key, k, x, out)
@@ -69,7 +70,7 @@ fn seal_read(
     k: u8,
     out: &mut [u8],
 ) -> Result<usize, Refusal>
-    ensures { (b : Board) → b.links ≡ links → sending_of b ≡ sending → framed (told_sealed result) (with_outgoing b (counter_after (told_sealed result) b.outgoing)) out.new ≡ seal_aps ours b f.now a k out.old }
+    ensures { (b : Board) → b.links ≡ links → sending_of b ≡ sending → sent b result out.new ≡ seal_aps ours b f.now a k out.old }
 {
     if out.len() < LONGEST {
         return Err(Refusal::Room);

@@ -11,7 +11,7 @@ use lib.ListN.{length}
 use Rattle.settings.specs.Settings.{Settings, longest, longest_plain}
 use Rattle.octets.specs.Keys.{the_key}
 use Rattle.network.specs.Sealing.{identifier, sealed_under}
-use Rattle.answers.specs.Numbers.{done, refused, sealed, turned_down, told_sealed}
+use Rattle.answers.specs.Numbers.{done, refused, sealed, turned_down}
 use Rattle.cipher.specs.Answers.{product}
 use Rattle.cipher.proofs.Opens.{tag-most}
 use Rattle.frames.specs.declared.Layer.TheVariants.{Network}
@@ -20,7 +20,8 @@ use Rattle.frames.proofs.Found.{plain-to-seal}
 use Rattle.board.specs.declared.Board.{Board}
 use Rattle.board.specs.declared.Sending.{Sending}
 use Rattle.board.specs.declared.Slot.{Slot}
-use Rattle.board.specs.Sending.{raised, with_outgoing, counter_after, spent, framed, sending_of, may_send, send}
+use Rattle.board.specs.Sending.{raised, with_outgoing, spent, framed, sending_of, may_send, send}
+use Rattle.board.specs.Code.{sent}
 use Rattle.board.proofs.Sends.{send-refused, send-done}
 use Rattle.seals.specs.Sealing.{Fair, sent_octets, sealed_frame, sealing, told_enclosed}
 use Rattle.seals.proofs.Securing.{Sealable, sealed-length}
@@ -61,7 +62,7 @@ module _ (z : Settings) (n : Sending) (s : Slot) (f : List ℕ) (h : ℕ) (o : L
   pub sent-slot : Fair z → Sealable z identifier f h → longest ≤ length o → may_send n ≡ done → (w : Option ℕ) (p : List ℕ)
       → product (told_enclosed w) p ≡ sealing z (the_key s.key) Network identifier n.counter n.own s.seq f h o
       → (b : Board) → sending_of b ≡ n
-      → framed (told_sealed (ok_or w Room)) (with_outgoing b (counter_after (told_sealed (ok_or w Room)) b.outgoing)) p ≡ sealed_under z b f o h s
+      → sent b (ok_or w Room) p ≡ sealed_under z b f o h s
   sent-slot fair x room q (Some m) p d b e = sealed-slot x room q (Some m) m p refl d b e
   sent-slot fair x room q None p d b e =
       never-nothing z (the_key s.key) Network identifier n.counter n.own s.seq f h o (omega arith) x room None p refl d

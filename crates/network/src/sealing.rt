@@ -3,7 +3,8 @@
 ghost use Rattle.std.specs.Prelude.{◌≡◌, ◌≤◌, length};
 ghost use Rattle.settings.specs.Settings.{ours, longest, longest_plain};
 ghost use Rattle.answers.specs.Numbers.{told_sealed};
-ghost use Rattle.board.specs.Sending.{with_outgoing, counter_after, framed, sending_of};
+ghost use Rattle.board.specs.Sending.{framed, sending_of};
+ghost use Rattle.board.specs.Code.{sent};
 ghost use Rattle.network.specs.Sealing.{sealed_under, sealed_by, seal_network};
 
 use answers::Refusal;
@@ -14,7 +15,7 @@ use settings::{LONGEST, LONGEST_PLAIN};
 
 fn seal_under(sending: Sending, s: Slot, x: Outgoing, out: &mut [u8]) -> Result<usize, Refusal>
     requires { (length x.frame.now ≤ longest_plain ours) × (longest ≤ length out.old) }
-    ensures { (b : Board) → sending_of b ≡ sending → framed (told_sealed result) (with_outgoing b (counter_after (told_sealed result) b.outgoing)) out.new ≡ sealed_under ours b x.entry.frame.now out.old x.entry.header s }
+    ensures { (b : Board) → sending_of b ≡ sending → sent b result out.new ≡ sealed_under ours b x.entry.frame.now out.old x.entry.header s }
 {
     board::may_send(sending)?;
     let aux = Auxiliary {
@@ -34,7 +35,7 @@ fn seal_active(
     out: &mut [u8],
 ) -> Result<usize, Refusal>
     requires { (length x.frame.now ≤ longest_plain ours) × (longest ≤ length out.old) }
-    ensures { (b : Board) → b.slots ≡ slots → sending_of b ≡ sending → framed (told_sealed result) (with_outgoing b (counter_after (told_sealed result) b.outgoing)) out.new ≡ sealed_by ours b x.entry.frame.now out.old x.entry.header (Some i) }
+    ensures { (b : Board) → b.slots ≡ slots → sending_of b ≡ sending → sent b result out.new ≡ sealed_by ours b x.entry.frame.now out.old x.entry.header (Some i) }
 {
     if 1 < i {
         return Err(Refusal::NoKey);
@@ -54,7 +55,7 @@ fn seal_by(
     out: &mut [u8],
 ) -> Result<usize, Refusal>
     requires { (length x.frame.now ≤ longest_plain ours) × (longest ≤ length out.old) }
-    ensures { (b : Board) → b.slots ≡ slots → sending_of b ≡ sending → framed (told_sealed result) (with_outgoing b (counter_after (told_sealed result) b.outgoing)) out.new ≡ sealed_by ours b x.entry.frame.now out.old x.entry.header active }
+    ensures { (b : Board) → b.slots ≡ slots → sending_of b ≡ sending → sent b result out.new ≡ sealed_by ours b x.entry.frame.now out.old x.entry.header active }
 {
     match active {
         None => Err(Refusal::NoKey),
@@ -69,7 +70,7 @@ fn seal_read(
     f: &[u8],
     out: &mut [u8],
 ) -> Result<usize, Refusal>
-    ensures { (b : Board) → b.slots ≡ slots → b.active ≡ active → sending_of b ≡ sending → framed (told_sealed result) (with_outgoing b (counter_after (told_sealed result) b.outgoing)) out.new ≡ seal_network ours b f.now out.old }
+    ensures { (b : Board) → b.slots ≡ slots → b.active ≡ active → sending_of b ≡ sending → sent b result out.new ≡ seal_network ours b f.now out.old }
 {
     if out.len() < LONGEST {
         return Err(Refusal::Room);
