@@ -8,6 +8,7 @@ ghost use Rattle.cipher.specs.Aes.{sub_bytes, shift_rows, mix_columns, add_block
 ghost use Rattle.cipher.specs.Code.{block_of, mixed_column};
 
 use crate::words::{add_words, block_of, doubled, rot_word, word, word_of, words_of};
+use std::array;
 
 // FIPS 197, figure 7.
 const SBOX: [u8; 256] = [
@@ -63,7 +64,7 @@ impl Tables {
     fn sub_bytes(&self, s: [u8; 16]) -> [u8; 16]
         ensures { result ≡ sub_bytes s }
     {
-        s.map(|x| self.sub_byte(x))
+        array::from_fn(|i| self.sub_byte(s[i]))
     }
 
     fn sub_and_shift(&self, s: [u32; 4]) -> [u8; 16]
