@@ -108,8 +108,8 @@ impl Tables {
     {
         let mut keys = [key; 11];
         let mut k = key;
-        for i in 0..10 {
-            let next = self.next_key(self.constants[i], k);
+        for (i, c) in self.constants.iter().enumerate() {
+            let next = self.next_key(*c, k);
             k = next;
             keys[i + 1] = next;
         }
@@ -151,11 +151,7 @@ fn mix_column(w: u32) -> u32
 fn mix_columns(s: [u8; 16]) -> [u32; 4]
     ensures { block_of result ≡ mix_columns s }
 {
-    let a = mix_column(word(s, 0));
-    let b = mix_column(word(s, 1));
-    let c = mix_column(word(s, 2));
-    let d = mix_column(word(s, 3));
-    [a, b, c, d]
+    array::from_fn(|i| mix_column(word(s, i)))
 }
 
 pub(crate) fn add_blocks(a: [u8; 16], b: [u8; 16]) -> [u8; 16]

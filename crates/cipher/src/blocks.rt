@@ -2,7 +2,7 @@
 // with zeros.
 ghost use Rattle.std.specs.Prelude.{◌≡◌, ◌+◌, ◌≤◌, length};
 ghost use Rattle.std.proofs.Math.Seq.{paste};
-ghost use Rattle.cipher.specs.Blocks.{block_from};
+ghost use Rattle.cipher.specs.Blocks.{two_octets, block_from};
 
 // The first 16 octets of d, or all and zeros behind them.
 pub(crate) fn zero_padded(d: &[u8]) -> [u8; 16]
@@ -16,6 +16,13 @@ pub(crate) fn zero_padded(d: &[u8]) -> [u8; 16]
             t
         }
     }
+}
+
+// The lower two octets of n, the higher first.
+pub(crate) fn two_octets(n: usize) -> [u8; 2]
+    ensures { result ≡ two_octets n }
+{
+    ((n % 65536) as u16).to_be_bytes()
 }
 
 // The first n octets of a block laid into out at place i.

@@ -8,7 +8,7 @@ ghost use Rattle.cipher.specs.Answers.{tag_length, product, counted, opened_onto
 
 use crate::Fault;
 use crate::aes::{Keyed, add_blocks};
-use crate::blocks::{put_block, zero_padded};
+use crate::blocks::{put_block, two_octets, zero_padded};
 
 // CCM* with what each of its steps takes: a key, the length M of the tag, and the nonce N.
 #[derive(Drop)]
@@ -23,64 +23,28 @@ pub(crate) struct Ccm<'a> {
 pub(crate) fn tag_length(m: usize) -> bool
     ensures { result ≡ tag_length m }
 {
-    if m == 0 {
-        return true;
-    }
-    if m < 4 {
-        return false;
-    }
-    if 16 < m {
-        return false;
-    }
-    m % 2 == 0
+    matches!(m, 0 | 4 | 6 | 8 | 10 | 12 | 14 | 16)
 }
 
 // Flags, nonce and a number of two octets: the form of B0 and of every Ai.
 fn field_of(f: u8, n: [u8; 13], i: usize) -> [u8; 16]
     ensures { result ≡ field f n i }
 {
-    [
-        f,
-        n[0],
-        n[1],
-        n[2],
-        n[3],
-        n[4],
-        n[5],
-        n[6],
-        n[7],
-        n[8],
-        n[9],
-        n[10],
-        n[11],
-        n[12],
-        (i / 256 % 256) as u8,
-        (i % 256) as u8,
-    ]
+    let mut t = [0u8; 16];
+    t[0] = f;
+    t[14..].copy_from_slice(&two_octets(i));
+    t[1..14].copy_from_slice(&n);
+    t
 }
 
 // The first block of L(a) || a, from the first block of a.
 fn lead_block(l: usize, b: [u8; 16]) -> [u8; 16]
     ensures { result ≡ two_octets l ++ tab 14 (at b) }
 {
-    [
-        (l / 256 % 256) as u8,
-        (l % 256) as u8,
-        b[0],
-        b[1],
-        b[2],
-        b[3],
-        b[4],
-        b[5],
-        b[6],
-        b[7],
-        b[8],
-        b[9],
-        b[10],
-        b[11],
-        b[12],
-        b[13],
-    ]
+    let mut t = [0u8; 16];
+    t[..2].copy_from_slice(&two_octets(l));
+    t[2..].copy_from_slice(&b[..14]);
+    t
 }
 
 // (M - 2) / 2, or 0 if M = 0.
@@ -88,21 +52,15 @@ fn tag_field(m: usize) -> u8
     requires { m ≤ 16 }
     ensures { (result ≡ (m - 2) / 2) × (result ≤ 7) }
 {
-    if m < 2 {
-        return 0;
-    }
-    ((m - 2) / 2) as u8
+    (m.saturating_sub(2) / 2) as u8
 }
 
 fn flags_of(m: usize, l: usize) -> u8
     requires { m ≤ 16 }
     ensures { result ≡ 64 * min 1 l + 8 * ((m - 2) / 2) + 1 }
 {
-    let t = tag_field(m);
-    if l == 0 {
-        return 8 * t + 1;
-    }
-    64 + 8 * t + 1
+    let marked = if l == 0 { 0 } else { 64 };
+    marked + 8 * tag_field(m) + 1
 }
 
 impl Ccm<'_> {

@@ -6,6 +6,7 @@ ghost use Rattle.cipher.specs.Code.{padded_after};
 ghost use Rattle.cipher.specs.Hash.{hashed_in, hash_of, plus_each, keyed_hash};
 
 use crate::aes::{Tables, add_blocks};
+use std::array;
 
 // Octet i of d, padded, where b octets went before it.
 fn padded_octet(d: &[u8], b: usize, i: usize) -> u8
@@ -33,11 +34,7 @@ fn padded_block_from(d: &[u8], b: usize, i: usize) -> [u8; 16]
     requires { (length d.now ≤ 256) × ((b ≤ 16) × (i ≤ 512)) }
     ensures { result ≡ block_from (padded_after b d.now) i }
 {
-    let mut t = [0u8; 16];
-    for j in 0..16 {
-        t[j] = padded_octet(d, b, i + j);
-    }
-    t
+    array::from_fn(|j| padded_octet(d, b, i + j))
 }
 
 // E(Hash, M) + M.
@@ -65,24 +62,7 @@ pub(crate) fn hash_from(tables: &Tables, h: [u8; 16], b: usize, d: &[u8]) -> [u8
 fn plus_each(k: [u8; 16], x: u8) -> [u8; 16]
     ensures { result ≡ plus_each k x }
 {
-    [
-        k[0] ^ x,
-        k[1] ^ x,
-        k[2] ^ x,
-        k[3] ^ x,
-        k[4] ^ x,
-        k[5] ^ x,
-        k[6] ^ x,
-        k[7] ^ x,
-        k[8] ^ x,
-        k[9] ^ x,
-        k[10] ^ x,
-        k[11] ^ x,
-        k[12] ^ x,
-        k[13] ^ x,
-        k[14] ^ x,
-        k[15] ^ x,
-    ]
+    array::from_fn(|i| k[i] ^ x)
 }
 
 // The hash of a key, each of its octets added to x, and then of d.

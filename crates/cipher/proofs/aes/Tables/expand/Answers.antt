@@ -11,7 +11,7 @@ use Rattle.cipher.proofs.aes.Tables.expand.Goals as goal
 
 pub loop-i-init : goal.loop-i-init
 unfolding key_at
-loop-i-init c = (search rules, refl, one _ _ _ _ refl (search rules) refl)
+loop-i-init c = (refl, one _ _ _ _ refl (search rules) refl)
 
 pub loop-i-preserved : goal.loop-i-preserved
 loop-i-preserved c =
@@ -19,8 +19,8 @@ loop-i-preserved c =
     let constant : at c.args.self.now.constants l.i ≡ rcon l.i
     = ap (λ (t : List ℕ). at t l.i) c.args.self.now.doubling ∙ get_or-tab 10 rcon l.i 0 (search rules) in
     let next = key_more c.args.key l.i in
-    (search rules, cc (constant, next), more _ _ _ _ _ _ l.invariant.2 (search rules) (cc (constant, next)))
+    (cc (constant, next), more _ _ _ _ _ _ l.invariant.1 (search rules) (cc (constant, next)))
 
 pub returns : goal.returns
 unfolding key_expansion
-returns c = all _ _ _ _ _ c.loop-i.invariant.2 (search rules)
+returns c = all _ _ _ _ _ c.loop-i.invariant.1 (search rules)
