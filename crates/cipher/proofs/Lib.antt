@@ -13,3 +13,6 @@ pub mod Cases
 pub mod Kept
 pub mod One
 pub mod Made
+pub mod Chunked
+pub mod Refusals
+pub mod Told

@@ -13,7 +13,11 @@ mod words;
 
 ghost use Rattle.std.specs.Prelude.{◌≡◌};
 ghost use Rattle.cipher.specs.Aes.{aes128};
+ghost use Rattle.cipher.specs.Code.{judged};
 ghost use Rattle.cipher.specs.Answers.{product, counted, hashed, sealing, opening, hashing, keyed_hashing};
+
+use crate::aes::Tables;
+use crate::ccm::Ccm;
 
 // A refusal, by the number that document 01 gives it: 1, 2, 3, 9 and 14.
 #[derive(Clone, Copy, Debug, PartialEq, Eq)]
@@ -29,10 +33,21 @@ pub enum Fault {
 pub fn aes128_block(key: [u8; 16], block: [u8; 16]) -> [u8; 16]
     ensures { result ≡ aes128 key block }
 {
-    let sbox = aes::table();
-    let constants = aes::round_constants();
-    let keys = aes::expand(&sbox, &constants, key);
-    aes::encipher(&sbox, &keys, block)
+    let tables = Tables::new();
+    tables.expand(key).encipher(block)
+}
+
+// What sealing and opening refuse first.
+fn judged(tag: usize, authenticated: &[u8]) -> Result<(), Fault>
+    ensures { result ≡ judged tag authenticated.now }
+{
+    if !ccm::tag_length(tag) {
+        return Err(Fault::Argument);
+    }
+    if 128 < authenticated.len() {
+        return Err(Fault::Long);
+    }
+    Ok(())
 }
 
 // CCM* of Annex A: the payload enciphered, and its tag of so many octets, at the start of out. Refused
@@ -48,22 +63,20 @@ pub fn seal(
 ) -> Result<usize, Fault>
     ensures { product (counted result) out.new ≡ sealing tag key nonce authenticated.now payload.now out.old }
 {
-    if !ccm::tag_length(tag) {
-        return Err(Fault::Argument);
-    }
-    if 128 < authenticated.len() {
-        return Err(Fault::Long);
-    }
+    judged(tag, authenticated)?;
     if 128 < payload.len() {
         return Err(Fault::Long);
     }
     if out.len() < payload.len() + tag {
         return Err(Fault::Room);
     }
-    let sbox = aes::table();
-    let constants = aes::round_constants();
-    let keys = aes::expand(&sbox, &constants, key);
-    ccm::seal_with(&sbox, &keys, tag, nonce, authenticated, payload, out);
+    let tables = Tables::new();
+    let ccm = Ccm {
+        key: tables.expand(key),
+        tag,
+        nonce,
+    };
+    ccm.seal(authenticated, payload, out);
     Ok(payload.len() + tag)
 }
 
@@ -81,12 +94,7 @@ pub fn unseal(
 ) -> Result<usize, Fault>
     ensures { product (counted result) out.new ≡ opening tag key nonce authenticated.now sealed.now out.old }
 {
-    if !ccm::tag_length(tag) {
-        return Err(Fault::Argument);
-    }
-    if 128 < authenticated.len() {
-        return Err(Fault::Long);
-    }
+    judged(tag, authenticated)?;
     if 128 + tag < sealed.len() {
         return Err(Fault::Long);
     }
@@ -96,10 +104,13 @@ pub fn unseal(
     if out.len() < sealed.len() - tag {
         return Err(Fault::Room);
     }
-    let sbox = aes::table();
-    let constants = aes::round_constants();
-    let keys = aes::expand(&sbox, &constants, key);
-    ccm::open_with(&sbox, &keys, tag, nonce, authenticated, sealed, out)
+    let tables = Tables::new();
+    let ccm = Ccm {
+        key: tables.expand(key),
+        tag,
+        nonce,
+    };
+    ccm.open(authenticated, sealed, out)
 }
 
 // AES-MMO of up to 256 octets; more of them is 2.
@@ -109,9 +120,8 @@ pub fn hash(input: &[u8]) -> Result<[u8; 16], Fault>
     if 256 < input.len() {
         return Err(Fault::Long);
     }
-    let sbox = aes::table();
-    let constants = aes::round_constants();
-    Ok(mmo::hash_from(&sbox, &constants, [0u8; 16], 0, input))
+    let tables = Tables::new();
+    Ok(mmo::hash_from(&tables, [0u8; 16], 0, input))
 }
 
 // The keyed hash, HMAC over AES-MMO, of up to 240 octets; more of them is 2.
@@ -121,7 +131,6 @@ pub fn keyed_hash(key: [u8; 16], input: &[u8]) -> Result<[u8; 16], Fault>
     if 240 < input.len() {
         return Err(Fault::Long);
     }
-    let sbox = aes::table();
-    let constants = aes::round_constants();
-    Ok(mmo::keyed_hash_of(&sbox, &constants, key, input))
+    let tables = Tables::new();
+    Ok(mmo::keyed_hash_of(&tables, key, input))
 }

@@ -4,7 +4,7 @@ use native.Mathlib.Omega.{arith}
 use lib.ListN.{length-take, replicate}
 use Rattle.settings.specs.Settings.{ours, longest}
 use Rattle.octets.specs.Keys.{the_key}
-use Rattle.cipher.proofs.Made.{ok-was, err-was}
+use Rattle.cipher.proofs.Told.{ok-was, err-was}
 use Rattle.seals.proofs.Fairly.{ours-fair}
 use Rattle.seals.proofs.Securing.{Secures, sealable-tells, sealed-by, after-length, after-made, after-not}
 use Rattle.seals.proofs.seal_sound.Goals as goal

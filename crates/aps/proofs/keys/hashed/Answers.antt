@@ -4,7 +4,7 @@ use mathlib.Core.List.{◌∷◌, []}
 use native.Mathlib.Omega.{arith}
 use Rattle.std.proofs.Common.{rules}
 use Rattle.cipher.proofs.Lengths.{keyed-made}
-use Rattle.cipher.proofs.Made.{hash-made}
+use Rattle.cipher.proofs.Told.{hash-made}
 use Rattle.aps.proofs.keys.hashed.Goals as goal
 
 pub unwrap-requires : goal.unwrap-requires
