@@ -7,7 +7,7 @@ ghost use Rattle.board.specs.State.{slot_at, carries};
 ghost use Rattle.board.specs.Requests.{left, changed, holds, slot_of};
 ghost use Rattle.board.specs.Requests.{install, switch};
 
-use crate::places::{did, refuse};
+
 use crate::rows::{free_rows, lists_fit};
 use crate::state::{with_active, with_slot};
 use crate::{After, Board, Slot};
@@ -43,19 +43,19 @@ pub fn install(
     ensures { left (told result.answer) result.board (lists addrs.new floors.new) ≡ install board (lists addrs.old floors.old) slot sequence (the_key key) }
 {
     if !lists_fit(addrs, floors) {
-        return refuse(Refusal::Room, board);
+        return After::refused(Refusal::Room, board);
     }
     let rows = addrs.len() / 2;
     if 1 < slot {
-        return refuse(Refusal::Argument, board);
+        return After::refused(Refusal::Argument, board);
     }
     let other = board.slots[1 - slot];
     if carries_number(other, sequence) {
-        return refuse(Refusal::Argument, board);
+        return After::refused(Refusal::Argument, board);
     }
     let now = board.slots[slot];
     if holds_key(now, sequence, key) {
-        return did(board);
+        return After::done(board);
     }
     free_rows(addrs, floors, slot * rows, rows);
     let s = Slot {
@@ -63,22 +63,14 @@ pub fn install(
         seq: sequence,
         key,
     };
-    did(with_slot(board, slot, s))
+    After::done(with_slot(board, slot, s))
 }
 
 // The lowest present slot with that sequence number.
 pub fn slot_of(slots: [Slot; 2], sequence: u8) -> Option<usize>
     ensures { result ≡ slot_of slots sequence }
 {
-    let first = slots[0];
-    if carries_number(first, sequence) {
-        return Some(0);
-    }
-    let second = slots[1];
-    if carries_number(second, sequence) {
-        return Some(1);
-    }
-    None
+    slots.iter().position(|s| carries_number(*s, sequence))
 }
 
 // The present slot with that sequence number becomes active, else 13.
@@ -87,7 +79,7 @@ pub fn switch(board: Board, sequence: u8) -> After<()>
 {
     let slots = board.slots;
     match slot_of(slots, sequence) {
-        Some(i) => did(with_active(board, i)),
-        None => refuse(Refusal::Absent, board),
+        Some(i) => After::done(with_active(board, i)),
+        None => After::refused(Refusal::Absent, board),
     }
 }

@@ -2,11 +2,11 @@
 // keys.
 #![tactic(auto)]
 
+mod answered;
 mod keys;
 mod mark;
 mod outgoing;
 mod partners;
-mod places;
 mod rows;
 mod state;
 

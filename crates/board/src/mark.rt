@@ -5,7 +5,7 @@ ghost use Rattle.answers.specs.Numbers.{told};
 ghost use Rattle.board.specs.Mark.{next_mark, with_mark, move_mark};
 ghost use Rattle.board.specs.Requests.{changed};
 
-use crate::places::{did, refuse};
+
 use crate::{After, Board};
 use answers::Refusal;
 use settings::{MARK_STEP, TOP};
@@ -23,9 +23,7 @@ pub fn next_mark(board: Board) -> u32
 fn with_mark(board: Board, mark: u32) -> Board
     ensures { result ≡ with_mark board mark }
 {
-    let mut next = board;
-    next.mark = mark;
-    next
+    Board { mark, ..board }
 }
 
 // The second request: the store now holds that mark. Only if it is the next one is it the board's;
@@ -34,7 +32,7 @@ pub fn move_mark(board: Board, stored: u32) -> After<()>
     ensures { changed (told result.answer) result.board ≡ move_mark board stored }
 {
     if stored == next_mark(board) {
-        return did(with_mark(board, stored));
+        return After::done(with_mark(board, stored));
     }
-    refuse(Refusal::Argument, board)
+    After::refused(Refusal::Argument, board)
 }

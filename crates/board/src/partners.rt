@@ -6,7 +6,7 @@ ghost use Rattle.octets.specs.Keys.{the_key};
 ghost use Rattle.board.specs.State.{pairs, with_link};
 ghost use Rattle.board.specs.Requests.{changed, link_of, free_link, added, add_new, add_to, add_link, remove_link};
 
-use crate::places::{did, refuse};
+
 use crate::state::{no_link, with_link};
 use crate::{After, Board, Link};
 use answers::Refusal;
@@ -21,25 +21,13 @@ fn pairs_with(l: Link, partner: u64) -> bool
 pub fn link_of(links: [Link; 8], partner: u64) -> Option<usize>
     ensures { result ≡ link_of links partner }
 {
-    for i in 0..8 {
-        let l = links[i];
-        if pairs_with(l, partner) {
-            return Some(i);
-        }
-    }
-    None
+    links.iter().position(|l| pairs_with(*l, partner))
 }
 
 fn free_link(links: [Link; 8]) -> Option<usize>
     ensures { result ≡ free_link links }
 {
-    for i in 0..8 {
-        let l = links[i];
-        if !l.present {
-            return Some(i);
-        }
-    }
-    None
+    links.iter().position(|l| !l.present)
 }
 
 // A partner's new key, floor 0, in entry i.
@@ -53,7 +41,7 @@ fn put_link(board: Board, i: usize, partner: u64, key: [u8; 16]) -> After<()>
         key,
         floor: 0,
     };
-    did(with_link(board, i, l))
+    After::done(with_link(board, i, l))
 }
 
 fn add_new(board: Board, partner: u64, key: [u8; 16]) -> After<()>
@@ -62,7 +50,7 @@ fn add_new(board: Board, partner: u64, key: [u8; 16]) -> After<()>
     let links = board.links;
     match free_link(links) {
         Some(i) => put_link(board, i, partner, key),
-        None => refuse(Refusal::Full, board),
+        None => After::refused(Refusal::Full, board),
     }
 }
 
@@ -80,7 +68,7 @@ fn add_again(board: Board, i: usize, partner: u64, key: [u8; 16]) -> After<()>
 {
     let l = board.links[i];
     if has_key(l, key) {
-        return did(board);
+        return After::done(board);
     }
     put_link(board, i, partner, key)
 }
@@ -91,7 +79,7 @@ pub fn add_link(board: Board, partner: u64, key: [u8; 16]) -> After<()>
     ensures { changed (told result.answer) result.board ≡ add_link board partner (the_key key) }
 {
     if octets::no_address(partner) {
-        return refuse(Refusal::Argument, board);
+        return After::refused(Refusal::Argument, board);
     }
     let links = board.links;
     match link_of(links, partner) {
@@ -105,11 +93,11 @@ pub fn remove_link(board: Board, partner: u64) -> After<()>
     ensures { changed (told result.answer) result.board ≡ remove_link board partner }
 {
     if partner == 0 {
-        return refuse(Refusal::Absent, board);
+        return After::refused(Refusal::Absent, board);
     }
     let links = board.links;
     match link_of(links, partner) {
-        Some(i) => did(with_link(board, i, no_link())),
-        None => refuse(Refusal::Absent, board),
+        Some(i) => After::done(with_link(board, i, no_link())),
+        None => After::refused(Refusal::Absent, board),
     }
 }

@@ -5,7 +5,7 @@ ghost use Rattle.board.specs.State.{no_slot, no_link, fresh, with_slot, with_act
 ghost use Rattle.board.specs.Requests.{changed};
 ghost use Rattle.board.specs.Requests.{make};
 
-use crate::places::{did, refuse};
+
 use crate::{After, Board, Link, Slot};
 use answers::Refusal;
 
@@ -48,43 +48,26 @@ pub fn make(own: u64, found: u32) -> After<()>
     ensures { changed (told result.answer) result.board ≡ make own found }
 {
     if octets::no_address(own) {
-        return refuse(Refusal::Argument, fresh_board(0, 0));
+        return After::refused(Refusal::Argument, fresh_board(0, 0));
     }
-    did(fresh_board(own, found))
+    After::done(fresh_board(own, found))
 }
 
 pub(crate) fn with_slot(board: Board, i: usize, s: Slot) -> Board
     requires { i < 2 }
     ensures { result ≡ with_slot board i s }
 {
-    let mut slots = board.slots;
-    slots[i] = s;
-    let active = board.active;
-    let links = board.links;
-    Board {
-        own: board.own,
-        outgoing: board.outgoing,
-        mark: board.mark,
-        aps: board.aps,
-        slots,
-        active,
-        links,
-    }
+    let mut next = board;
+    next.slots[i] = s;
+    next
 }
 
 pub(crate) fn with_active(board: Board, i: usize) -> Board
     ensures { result ≡ with_active board i }
 {
-    let slots = board.slots;
-    let links = board.links;
     Board {
-        own: board.own,
-        outgoing: board.outgoing,
-        mark: board.mark,
-        aps: board.aps,
-        slots,
         active: Some(i),
-        links,
+        ..board
     }
 }
 

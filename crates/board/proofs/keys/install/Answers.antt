@@ -12,7 +12,7 @@ use Rattle.board.proofs.keys.install.Goals as goal
 
 pub returns-then-not-lists_fit : goal.returns-then-not-lists_fit
 unfolding install
-returns-then-not-lists_fit c = simp (sym c.lists_fit.ensures ∙ c.if-not-lists_fit.true) (left-all c.refuse.ensures refl refl)
+returns-then-not-lists_fit c = simp (sym c.lists_fit.ensures ∙ c.if-not-lists_fit.true) (left-all c.refused.ensures refl refl)
 
 pub returns-then-slot-gt1 : goal.returns-then-slot-gt1
 unfolding install
@@ -21,7 +21,7 @@ returns-then-slot-gt1 c =
       sym c.lists_fit.ensures ∙ c.if-not-lists_fit.false,
       lt-ltb _ _ c.if-slot-gt1.true,
     )
-    (left-all c.refuse-then-slot-gt1.ensures refl refl)
+    (left-all c.refused-then-slot-gt1.ensures refl refl)
 
 pub returns-then-carries_number : goal.returns-then-carries_number
 unfolding install
@@ -31,7 +31,7 @@ returns-then-carries_number c =
       le-ltb _ _ c.if-slot-gt1.false,
       sym c.carries_number.ensures ∙ c.if-carries_number.true,
     )
-    (left-all c.refuse-then-carries_number.ensures refl refl)
+    (left-all c.refused-then-carries_number.ensures refl refl)
 
 pub returns-then-holds_key : goal.returns-then-holds_key
 unfolding install
@@ -42,7 +42,7 @@ returns-then-holds_key c =
       sym c.carries_number.ensures ∙ c.if-carries_number.false,
       sym c.holds_key.ensures ∙ c.if-holds_key.true,
     )
-    (left-all c.did.ensures refl refl)
+    (left-all c.done.ensures refl refl)
 
 pub overflow_mul-slot : goal.overflow_mul-slot
 overflow_mul-slot c =
@@ -64,5 +64,5 @@ returns c =
       sym c.carries_number.ensures ∙ c.if-carries_number.false,
       sym c.holds_key.ensures ∙ c.if-holds_key.false,
     )
-    (left-all (c.did-2.ensures ∙ ap (changed done) c.with_slot.ensures) c.free_rows.ensures.addrs_after
+    (left-all (c.done-2.ensures ∙ ap (changed done) c.with_slot.ensures) c.free_rows.ensures.addrs_after
     c.free_rows.ensures.floors_after)

@@ -5,8 +5,8 @@ use Rattle.board.proofs.keys.switch.Goals as goal
 
 pub returns-in-Some : goal.returns-in-Some
 unfolding switch
-returns-in-Some c = simp (sym c.in-Some.ensures, ← c.with_active.ensures) c.did.ensures
+returns-in-Some c = simp (sym c.in-Some.ensures, ← c.with_active.ensures) c.done.ensures
 
 pub returns-in-None : goal.returns-in-None
 unfolding switch
-returns-in-None c = simp (sym c.in-None.ensures) c.refuse.ensures
+returns-in-None c = simp (sym c.in-None.ensures) c.refused.ensures

@@ -10,11 +10,11 @@ unfolding move_mark
 returns-then-stored-next_mark c =
     let same : c.args.stored ≡ next_mark c.args.board.mark =
     omega (arith, c.if-stored-next_mark.true, c.next_mark.ensures) in
-    simp (eq-eqb c.args.stored (next_mark c.args.board.mark) same, ← c.with_mark.ensures) c.did.ensures
+    simp (eq-eqb c.args.stored (next_mark c.args.board.mark) same, ← c.with_mark.ensures) c.done.ensures
 
 pub returns : goal.returns
 unfolding move_mark
 returns c =
     let other : c.args.stored ≡ next_mark c.args.board.mark → ⊥ =
     λ e. omega (arith, e, c.if-stored-next_mark.false, c.next_mark.ensures) in
-    simp (ne_eqb c.args.stored (next_mark c.args.board.mark) other) c.refuse.ensures
+    simp (ne_eqb c.args.stored (next_mark c.args.board.mark) other) c.refused.ensures

@@ -3,7 +3,7 @@ use mathlib.Core.Path.{sym, ◌∙◌}
 use Rattle.board.proofs.partners.add_again.Goals as goal
 
 pub returns-then-has_key : goal.returns-then-has_key
-returns-then-has_key c = simp (sym c.has_key.ensures ∙ c.if-has_key.true) c.did.ensures
+returns-then-has_key c = simp (sym c.has_key.ensures ∙ c.if-has_key.true) c.done.ensures
 
 pub returns : goal.returns
 returns c = simp (sym c.has_key.ensures ∙ c.if-has_key.false) c.put_link.ensures

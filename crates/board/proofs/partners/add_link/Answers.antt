@@ -6,7 +6,7 @@ use Rattle.board.proofs.partners.add_link.Goals as goal
 
 pub returns-then-no_address : goal.returns-then-no_address
 unfolding add_link
-returns-then-no_address c = simp (sym c.no_address.ensures ∙ c.if-no_address.true) c.refuse.ensures
+returns-then-no_address c = simp (sym c.no_address.ensures ∙ c.if-no_address.true) c.refused.ensures
 
 pub add_again-requires : goal.add_again-requires
 add_again-requires c = link-place _ _ _ (sym c.in-Some.ensures)

@@ -10,4 +10,4 @@ pub returns-in-Some : goal.returns-in-Some
 returns-in-Some c = simp (sym c.in-Some.ensures) c.put_link.ensures
 
 pub returns-in-None : goal.returns-in-None
-returns-in-None c = simp (sym c.in-None.ensures) c.refuse.ensures
+returns-in-None c = simp (sym c.in-None.ensures) c.refused.ensures

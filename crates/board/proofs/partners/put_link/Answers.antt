@@ -2,4 +2,4 @@
 use Rattle.board.proofs.partners.put_link.Goals as goal
 
 pub returns : goal.returns
-returns c = simp (← c.with_link.ensures) c.did.ensures
+returns c = simp (← c.with_link.ensures) c.done.ensures

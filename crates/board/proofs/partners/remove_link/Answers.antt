@@ -7,7 +7,7 @@ use Rattle.board.proofs.partners.remove_link.Goals as goal
 
 pub returns-then-partner-eq0 : goal.returns-then-partner-eq0
 unfolding remove_link
-returns-then-partner-eq0 c = simp (eq-eqb _ _ c.if-partner-eq0.true) c.refuse.ensures
+returns-then-partner-eq0 c = simp (eq-eqb _ _ c.if-partner-eq0.true) c.refused.ensures
 
 pub with_link-requires : goal.with_link-requires
 with_link-requires c = link-place _ _ _ (sym c.in-Some.ensures)
@@ -21,8 +21,8 @@ returns-in-Some c =
       ← c.with_link.ensures,
       ← c.no_link.ensures,
     )
-    c.did.ensures
+    c.done.ensures
 
 pub returns-in-None : goal.returns-in-None
 unfolding remove_link
-returns-in-None c = simp (ne_eqb _ _ c.if-partner-eq0.false, sym c.in-None.ensures) c.refuse-in-None.ensures
+returns-in-None c = simp (ne_eqb _ _ c.if-partner-eq0.false, sym c.in-None.ensures) c.refused-in-None.ensures

@@ -7,10 +7,10 @@ pub returns-then-no_address : goal.returns-then-no_address
 unfolding make
 returns-then-no_address c =
     simp (sym c.no_address.ensures ∙ c.if-no_address.true, ← c.fresh_board.ensures)
-    c.refuse.ensures
+    c.refused.ensures
 
 pub returns : goal.returns
 unfolding make
 returns c =
     simp (sym c.no_address.ensures ∙ c.if-no_address.false, ← c.fresh_board-2.ensures)
-    c.did.ensures
+    c.done.ensures
