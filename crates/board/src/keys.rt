@@ -13,20 +13,20 @@ use crate::state::{with_active, with_slot};
 use crate::{After, Board, Slot};
 use answers::Refusal;
 
-fn carries_number(s: Slot, sequence: u8) -> bool
-    ensures { result ≡ carries s sequence }
-{
-    s.present && s.seq == sequence
-}
-
-fn holds_key(s: Slot, sequence: u8, key: [u8; 16]) -> bool
-    ensures { result ≡ holds s sequence (the_key key) }
-{
-    if !carries_number(s, sequence) {
-        return false;
+impl Slot {
+    #[tactic(auto, unfolding(crate::specs::State::carries))]
+    fn carries_number(&self, sequence: u8) -> bool
+        ensures { result ≡ carries self.now sequence }
+    {
+        self.present && self.seq == sequence
     }
-    let own = s.key;
-    octets::same(&own, &key)
+
+    #[tactic(auto, unfolding(crate::specs::Requests::holds))]
+    fn holds_key(&self, sequence: u8, key: &[u8; 16]) -> bool
+        ensures { result ≡ holds self.now sequence (the_key key.now) }
+    {
+        self.carries_number(sequence) && octets::same(&self.key, key)
+    }
 }
 
 // Installs a network key. 1 where the lists don't fit; 14 for a slot above 1, or where the other
@@ -49,12 +49,10 @@ pub fn install(
     if 1 < slot {
         return After::refused(Refusal::Argument, board);
     }
-    let other = board.slots[1 - slot];
-    if carries_number(other, sequence) {
+    if board.slots[1 - slot].carries_number(sequence) {
         return After::refused(Refusal::Argument, board);
     }
-    let now = board.slots[slot];
-    if holds_key(now, sequence, key) {
+    if board.slots[slot].holds_key(sequence, &key) {
         return After::done(board);
     }
     free_rows(addrs, floors, slot * rows, rows);
@@ -70,7 +68,7 @@ pub fn install(
 pub fn slot_of(slots: [Slot; 2], sequence: u8) -> Option<usize>
     ensures { result ≡ slot_of slots sequence }
 {
-    slots.iter().position(|s| carries_number(*s, sequence))
+    slots.iter().position(|s| s.carries_number(sequence))
 }
 
 // The present slot with that sequence number becomes active, else 13.

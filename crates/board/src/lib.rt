@@ -19,7 +19,7 @@ pub use rows::{find_row, forget, lists_fit};
 pub use state::make;
 
 // A network key and its sequence number.
-#[derive(Clone, Copy)]
+#[derive(Clone, Copy, Default)]
 pub struct Slot {
     pub present: bool,
     pub seq: u8,
@@ -27,7 +27,7 @@ pub struct Slot {
 }
 
 // A partner's link key; floor is the least counter still accepted under it.
-#[derive(Clone, Copy)]
+#[derive(Clone, Copy, Default)]
 pub struct Link {
     pub present: bool,
     pub partner: u64,

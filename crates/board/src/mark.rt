@@ -8,16 +8,14 @@ ghost use Rattle.board.specs.Requests.{changed};
 
 use crate::{After, Board};
 use answers::Refusal;
-use settings::{MARK_STEP, TOP};
+use settings::MARK_STEP;
 
 // The first request of a step: the next mark, which the host now writes. At the top it stays.
+#[tactic(auto, unfolding(crate::specs::Mark::next_mark))]
 pub fn next_mark(board: Board) -> u32
     ensures { result ≡ next_mark board.mark }
 {
-    if TOP - board.mark < MARK_STEP {
-        return TOP;
-    }
-    board.mark + MARK_STEP
+    board.mark.saturating_add(MARK_STEP)
 }
 
 fn with_mark(board: Board, mark: u32) -> Board

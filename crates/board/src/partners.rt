@@ -11,17 +11,20 @@ use crate::state::{no_link, with_link};
 use crate::{After, Board, Link};
 use answers::Refusal;
 
-fn pairs_with(l: Link, partner: u64) -> bool
-    ensures { result ≡ pairs l partner }
-{
-    l.present && l.partner == partner
+impl Link {
+    #[tactic(auto, unfolding(crate::specs::State::pairs))]
+    fn pairs_with(&self, partner: u64) -> bool
+        ensures { result ≡ pairs self.now partner }
+    {
+        self.present && self.partner == partner
+    }
 }
 
 // The lowest present entry for that partner.
 pub fn link_of(links: [Link; 8], partner: u64) -> Option<usize>
     ensures { result ≡ link_of links partner }
 {
-    links.iter().position(|l| pairs_with(*l, partner))
+    links.iter().position(|l| l.pairs_with(partner))
 }
 
 fn free_link(links: [Link; 8]) -> Option<usize>
@@ -54,20 +57,12 @@ fn add_new(board: Board, partner: u64, key: [u8; 16]) -> After<()>
     }
 }
 
-fn has_key(l: Link, key: [u8; 16]) -> bool
-    ensures { result ≡ eq_list l.key key }
-{
-    let own = l.key;
-    octets::same(&own, &key)
-}
-
 // A key for a partner who has one in entry i.
 fn add_again(board: Board, i: usize, partner: u64, key: [u8; 16]) -> After<()>
     requires { i < 8 }
     ensures { changed (told result.answer) result.board ≡ add_to board partner (the_key key) (Some i) }
 {
-    let l = board.links[i];
-    if has_key(l, key) {
+    if octets::same(&board.links[i].key, &key) {
         return After::done(board);
     }
     put_link(board, i, partner, key)

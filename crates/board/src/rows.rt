@@ -9,6 +9,7 @@ use answers::Refusal;
 use settings::{LONGEST_LIST, SHORTEST_LIST};
 
 // Whether both lists have one length, and that is even and from 2 to 1,024.
+#[tactic(auto, unfolding(crate::specs::Rows::lists_fit, crate::specs::Rows::legal))]
 pub fn lists_fit(addrs: &[u64], floors: &[u32]) -> bool
     ensures { result ≡ lists_fit (lists addrs.now floors.now) }
 {

@@ -9,36 +9,29 @@ ghost use Rattle.board.specs.Requests.{make};
 use crate::{After, Board, Link, Slot};
 use answers::Refusal;
 
+fn no_slot() -> Slot
+    ensures { result ≡ no_slot }
+{
+    Slot::default()
+}
+
 pub(crate) fn no_link() -> Link
     ensures { result ≡ no_link }
 {
-    Link {
-        present: false,
-        partner: 0,
-        key: [0u8; 16],
-        floor: 0,
-    }
+    Link::default()
 }
 
 fn fresh_board(own: u64, found: u32) -> Board
     ensures { result ≡ fresh own found }
 {
-    let slot = Slot {
-        present: false,
-        seq: 0,
-        key: [0u8; 16],
-    };
-    let link = no_link();
-    let slots = [slot; 2];
-    let links = [link; 8];
     Board {
         own,
         outgoing: found,
         mark: found,
         aps: 0,
-        slots,
+        slots: [no_slot(); 2],
         active: None,
-        links,
+        links: [no_link(); 8],
     }
 }
 

@@ -2,8 +2,8 @@
 use mathlib.Core.Path.{sym, ◌∙◌}
 use Rattle.board.proofs.partners.add_again.Goals as goal
 
-pub returns-then-has_key : goal.returns-then-has_key
-returns-then-has_key c = simp (sym c.has_key.ensures ∙ c.if-has_key.true) c.done.ensures
+pub returns-then-same : goal.returns-then-same
+returns-then-same c = simp (sym c.same.ensures ∙ c.if-same.true) c.done.ensures
 
 pub returns : goal.returns
-returns c = simp (sym c.has_key.ensures ∙ c.if-has_key.false) c.put_link.ensures
+returns c = simp (sym c.same.ensures ∙ c.if-same.false) c.put_link.ensures
