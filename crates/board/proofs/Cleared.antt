@@ -34,7 +34,7 @@ unfolding freed
 filled l y i n h e =
     let m = min n (length l - i) in
     let long : length (mid_of i (i + n - i) l) ≡ m =
-      length-take (i + n - i) (drop i l) ∙ ap (min (i + n - i)) (length-drop i l) ∙ (let q : min (i + n - i) (length l - i) ≡ m = omega arith in q) in
+    length-take (i + n - i) (drop i l) ∙ ap (min (i + n - i)) (length-drop i l) ∙ (let q : min (i + n - i) (length l - i) ≡ m = omega arith in q) in
     put_mid-paste i (i + n - i) l y (replicate m 0) m (e ∙ ap (λ (k : ℕ). replicate k 0) long) (omega arith) (sym (length-replicate m 0))
 
 pub freed-length : (l : List ℕ) (i n : ℕ) → i + n ≤ length l → length (freed l i n) ≡ length l

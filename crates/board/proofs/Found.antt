@@ -105,10 +105,10 @@ module _ {X : Type 0} (t : X → Bool) (d : X) where
       let part = take n (drop i xs) in
       let e : length part ≡ min n (length xs - i) = length-take n (drop i xs) ∙ ap (min n) (length-drop i xs) in
       let same : (j k : ℕ) → j ≡ i + k → k < length part → t (get_or xs j d) ≡ t (get_or part k d) =
-        λ j k p b.
-        let within : k < n = omega (arith, e) in
-        let at : get_or part k d ≡ get_or xs (i + k) d = get_or-take n (drop i xs) k d within ∙ get_or-drop i xs k d in
-        rw (p, at) refl in
+      λ j k p b.
+      let within : k < n = omega (arith, e) in
+      let at : get_or part k d ≡ get_or xs (i + k) d = get_or-take n (drop i xs) k d within ∙ get_or-drop i xs k d in
+      rw (p, at) refl in
       ap (option_map (λ r. i + r)) (position_from-zero t part) ∙ moved part i 0 i (omega arith)
       ∙ from-place (λ k. t (get_or xs k d)) part i same ∙ ap (first_at (λ k. t (get_or xs k d)) i) e
 

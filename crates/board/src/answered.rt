@@ -6,22 +6,20 @@ ghost use Rattle.board.specs.Requests.{changed};
 use crate::{After, Board};
 use answers::Refusal;
 
-impl After<()> {
-    pub(crate) fn done(board: Board) -> After<()>
-        ensures { changed (told result.answer) result.board ≡ changed done board }
-    {
-        After {
-            answer: Ok(()),
-            board,
-        }
+pub(crate) fn did(board: Board) -> After<()>
+    ensures { changed (told result.answer) result.board ≡ changed done board }
+{
+    After {
+        answer: Ok(()),
+        board,
     }
+}
 
-    pub(crate) fn refused(why: Refusal, board: Board) -> After<()>
-        ensures { changed (told result.answer) result.board ≡ changed (refused (number_of why)) board }
-    {
-        After {
-            answer: Err(why),
-            board,
-        }
+pub(crate) fn refuse(why: Refusal, board: Board) -> After<()>
+    ensures { changed (told result.answer) result.board ≡ changed (refused (number_of why)) board }
+{
+    After {
+        answer: Err(why),
+        board,
     }
 }

@@ -18,7 +18,8 @@ pub use partners::{add_link, link_of, remove_link};
 pub use rows::{find_row, forget, lists_fit};
 pub use state::make;
 
-// A network key and its sequence number.
+// A network key and its sequence number. An absent one keeps its fields, which the host may set and
+// is shown: so `present` stands beside them, and no Option around them.
 #[derive(Clone, Copy, Default)]
 pub struct Slot {
     pub present: bool,
@@ -26,7 +27,7 @@ pub struct Slot {
     pub key: [u8; 16],
 }
 
-// A partner's link key; floor is the least counter still accepted under it.
+// A partner's link key, present as a slot is; floor is the least counter still accepted under it.
 #[derive(Clone, Copy, Default)]
 pub struct Link {
     pub present: bool,

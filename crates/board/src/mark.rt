@@ -5,7 +5,7 @@ ghost use Rattle.answers.specs.Numbers.{told};
 ghost use Rattle.board.specs.Mark.{next_mark, with_mark, move_mark};
 ghost use Rattle.board.specs.Requests.{changed};
 
-
+use crate::answered::{did, refuse};
 use crate::{After, Board};
 use answers::Refusal;
 use settings::MARK_STEP;
@@ -26,11 +26,12 @@ fn with_mark(board: Board, mark: u32) -> Board
 
 // The second request: the store now holds that mark. Only if it is the next one is it the board's;
 // any other is 14.
+#[tactic(auto, unfolding(crate::specs::Mark::move_mark))]
 pub fn move_mark(board: Board, stored: u32) -> After<()>
     ensures { changed (told result.answer) result.board ≡ move_mark board stored }
 {
     if stored == next_mark(board) {
-        return After::done(with_mark(board, stored));
+        return did(with_mark(board, stored));
     }
-    After::refused(Refusal::Argument, board)
+    refuse(Refusal::Argument, board)
 }

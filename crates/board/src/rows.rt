@@ -55,6 +55,7 @@ pub(crate) fn free_rows(addrs: &mut [u64], floors: &mut [u32], from: usize, n: u
 
 // Forgets a sender of a slot: its row is freed. 1 where the lists don't fit, 14 for a slot above 1,
 // 13 where the sender is not there.
+#[tactic(auto, unfolding(crate::specs::Requests::forget))]
 pub fn forget(
     addrs: &mut [u64],
     floors: &mut [u32],
@@ -63,8 +64,7 @@ pub fn forget(
 ) -> Result<(), Refusal>
     ensures { freeing (told result) (lists addrs.new floors.new) ≡ forget (lists addrs.old floors.old) slot sender }
 {
-    let fit = lists_fit(addrs, floors);
-    if !fit {
+    if !lists_fit(addrs, floors) {
         return Err(Refusal::Room);
     }
     let rows = addrs.len() / 2;
@@ -74,11 +74,7 @@ pub fn forget(
     if sender == 0 {
         return Err(Refusal::Absent);
     }
-    match find_row(addrs, slot * rows, rows, sender) {
-        Some(r) => {
-            put_row(addrs, floors, r, 0, 0);
-            Ok(())
-        }
-        None => Err(Refusal::Absent),
-    }
+    let r = find_row(addrs, slot * rows, rows, sender).ok_or(Refusal::Absent)?;
+    put_row(addrs, floors, r, 0, 0);
+    Ok(())
 }

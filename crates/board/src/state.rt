@@ -5,7 +5,7 @@ ghost use Rattle.board.specs.State.{no_slot, no_link, fresh, with_slot, with_act
 ghost use Rattle.board.specs.Requests.{changed};
 ghost use Rattle.board.specs.Requests.{make};
 
-
+use crate::answered::{did, refuse};
 use crate::{After, Board, Link, Slot};
 use answers::Refusal;
 
@@ -37,13 +37,14 @@ fn fresh_board(own: u64, found: u32) -> Board
 
 // A fresh board with that address, which starts at the mark that it finds in the host's store, 0 on a
 // new one. An address of zero or all ones is 14, with a board without address.
+#[tactic(auto, unfolding(crate::specs::Requests::make))]
 pub fn make(own: u64, found: u32) -> After<()>
     ensures { changed (told result.answer) result.board ≡ make own found }
 {
     if octets::no_address(own) {
-        return After::refused(Refusal::Argument, fresh_board(0, 0));
+        return refuse(Refusal::Argument, fresh_board(0, 0));
     }
-    After::done(fresh_board(own, found))
+    did(fresh_board(own, found))
 }
 
 pub(crate) fn with_slot(board: Board, i: usize, s: Slot) -> Board
