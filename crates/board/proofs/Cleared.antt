@@ -33,9 +33,10 @@ pub filled : (l y : List ℕ) (i n : ℕ) → i + n ≤ length l → y ≡ repli
 unfolding freed
 filled l y i n h e =
     let m = min n (length l - i) in
-    let long : length (mid_of i (i + n - i) l) ≡ m =
-    length-take (i + n - i) (drop i l) ∙ ap (min (i + n - i)) (length-drop i l) ∙ (let q : min (i + n - i) (length l - i) ≡ m = omega arith in q) in
-    put_mid-paste i (i + n - i) l y (replicate m 0) m (e ∙ ap (λ (k : ℕ). replicate k 0) long) (omega arith) (sym (length-replicate m 0))
+    let k = i + n - i in
+    let same : min k (length l - i) ≡ m = omega arith in
+    let long : length (mid_of i k l) ≡ m = length-take k (drop i l) ∙ ap (min k) (length-drop i l) ∙ same in
+    put_mid-paste i k l y (replicate m 0) m (e ∙ ap (λ (j : ℕ). replicate j 0) long) (omega arith) (sym (length-replicate m 0))
 
 pub freed-length : (l : List ℕ) (i n : ℕ) → i + n ≤ length l → length (freed l i n) ≡ length l
 unfolding freed

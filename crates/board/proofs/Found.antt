@@ -73,14 +73,18 @@ module _ (p : ℕ → Bool) where
 -- ---- what std's `position` finds
 
 module _ {X : Type 0} (t : X → Bool) (d : X) where
+  abbrev at : List X → ℕ → Bool
+  at xs k = t (get_or xs k d)
+
   -- in a list whose first element stands at place i, where q tells of the places
-  from-place : (q : ℕ → Bool) (xs : List X) (i : ℕ) → ((j k : ℕ) → j ≡ i + k → k < length xs → q j ≡ t (get_or xs k d))
+  from-place : (q : ℕ → Bool) (xs : List X) (i : ℕ) → ((j k : ℕ) → j ≡ i + k → k < length xs → q j ≡ at xs k)
       → position_from t i xs ≡ first_at q i (length xs)
   unfolding first_at
   from-place q [] i h = refl
   from-place q (x ∷ xs) i h =
       let e : q i ≡ t x = h i 0 (omega arith) (omega arith) in
-      rw e (ap (λ o. if t x then Some i else o) (from-place q xs (i + 1) (λ j k p b. h j (suc k) (omega arith) (omega arith))))
+      let rest = from-place q xs (i + 1) (λ j k p b. h j (suc k) (omega arith) (omega arith)) in
+      rw e (ap (λ o. if t x then Some i else o) rest)
 
   moved : (xs : List X) (i j n : ℕ) → n ≡ i + j → option_map (λ r. i + r) (position_from t j xs) ≡ position_from t n xs
   moved [] i j n p = refl
@@ -95,8 +99,8 @@ module _ {X : Type 0} (t : X → Bool) (d : X) where
   -- in a whole list, of n elements
   pub first-position : (xs : List X) (n : ℕ) → length xs ≡ n → position t xs ≡ first_at (λ k. t (get_or xs k d)) 0 n
   first-position xs n e =
-      let same = λ (j k : ℕ) (p : j ≡ 0 + k) (b : k < length xs). let q : j ≡ k = omega arith in ap (λ (m : ℕ). t (get_or xs m d)) q in
-      position_from-zero t xs ∙ from-place (λ k. t (get_or xs k d)) xs 0 same ∙ ap (first_at (λ k. t (get_or xs k d)) 0) e
+      let same : (j k : ℕ) → j ≡ 0 + k → k < length xs → at xs j ≡ at xs k = λ j k p b. let q : j ≡ k = omega arith in rw q refl in
+      position_from-zero t xs ∙ from-place (at xs) xs 0 same ∙ ap (first_at (at xs) 0) e
 
   -- in the n elements of a list from place i on, so far as it has them
   pub first-within : (xs : List X) (i n : ℕ)
@@ -104,13 +108,13 @@ module _ {X : Type 0} (t : X → Bool) (d : X) where
   first-within xs i n =
       let part = take n (drop i xs) in
       let e : length part ≡ min n (length xs - i) = length-take n (drop i xs) ∙ ap (min n) (length-drop i xs) in
-      let same : (j k : ℕ) → j ≡ i + k → k < length part → t (get_or xs j d) ≡ t (get_or part k d) =
+      let same : (j k : ℕ) → j ≡ i + k → k < length part → at xs j ≡ at part k =
       λ j k p b.
       let within : k < n = omega (arith, e) in
-      let at : get_or part k d ≡ get_or xs (i + k) d = get_or-take n (drop i xs) k d within ∙ get_or-drop i xs k d in
-      rw (p, at) refl in
+      let q : get_or part k d ≡ get_or xs (i + k) d = get_or-take n (drop i xs) k d within ∙ get_or-drop i xs k d in
+      rw (p, q) refl in
       ap (option_map (λ r. i + r)) (position_from-zero t part) ∙ moved part i 0 i (omega arith)
-      ∙ from-place (λ k. t (get_or xs k d)) part i same ∙ ap (first_at (λ k. t (get_or xs k d)) i) e
+      ∙ from-place (at xs) part i same ∙ ap (first_at (at xs) i) e
 
 -- rows that the list has
 pub rows-there : (al : List ℕ) (i n a : ℕ) → i + n ≤ length al → find_row al i n a ≡ first_at (λ r. eqb (get_or al r 0) a) i n
