@@ -2,11 +2,11 @@
 // keys.
 #![tactic(auto)]
 
+mod answered;
 mod keys;
 mod mark;
 mod outgoing;
 mod partners;
-mod places;
 mod rows;
 mod state;
 
@@ -18,16 +18,17 @@ pub use partners::{add_link, link_of, remove_link};
 pub use rows::{find_row, forget, lists_fit};
 pub use state::make;
 
-// A network key and its sequence number.
-#[derive(Clone, Copy)]
+// A network key and its sequence number. An absent one keeps its fields, which the host may set and
+// is shown: so `present` stands beside them, and no Option around them.
+#[derive(Clone, Copy, Default)]
 pub struct Slot {
     pub present: bool,
     pub seq: u8,
     pub key: [u8; 16],
 }
 
-// A partner's link key; floor is the least counter still accepted under it.
-#[derive(Clone, Copy)]
+// A partner's link key, present as a slot is; floor is the least counter still accepted under it.
+#[derive(Clone, Copy, Default)]
 pub struct Link {
     pub present: bool,
     pub partner: u64,

@@ -19,6 +19,7 @@ pub fn sending_of(board: Board) -> Sending
 }
 
 // Whether a frame may go out: 7 where the counter is at its top, then 17 where it is not below the mark.
+#[tactic(auto, unfolding(crate::specs::Sending::may_send))]
 pub fn may_send(sending: Sending) -> Result<(), Refusal>
     ensures { told result ≡ may_send sending }
 {
@@ -36,12 +37,7 @@ pub fn counter_after(answer: Result<usize, Refusal>, counter: u32) -> u32
     ensures { result ≡ counter_after (told_sealed answer) counter }
 {
     match answer {
-        Ok(_) => {
-            if counter == TOP {
-                return counter;
-            }
-            counter + 1
-        }
+        Ok(_) => counter.saturating_add(1),
         Err(_) => counter,
     }
 }

@@ -1,4 +1,4 @@
-// Answers of requests.
+// What a request that hands nothing back leaves: done or refused, beside the board.
 ghost use Rattle.std.specs.Prelude.{◌≡◌};
 ghost use Rattle.answers.specs.Numbers.{told, done, refused, number_of};
 ghost use Rattle.board.specs.Requests.{changed};
