@@ -5,12 +5,11 @@ use mathlib.Core.List.{List, [], ◌∷◌, ◌++◌}
 use Prim.Native.Nat.{ℕ, zero, suc, ◌+◌, ◌-◌, ◌*◌, ◌/◌, ◌%◌, ◌≤◌, ◌<◌}
 use native.Mathlib.Nat.{not-suc-le-zero, le_of_suc-le-suc}
 use native.Mathlib.Omega.{arith}
-use lib.ListN.{length, get_or, take, drop, replicate, length-append}
-use lib.Seq.{paste, take_at, take_all, take-paste}
+use lib.ListN.{length, get_or, take, length-append}
+use lib.Seq.{take_at}
+use borrow.Rule.Slice.PartMut.{put_mid}
+use Rattle.std.proofs.lemmas.Slice.{take-put_mid}
 use Rattle.octets.specs.Least.{spelled}
-use Rattle.octets.specs.Lists.{onto, pasted}
-use Rattle.octets.proofs.Pasted.{pasted-onto, pasted-whole}
-use Rattle.octets.proofs.Tabs.{length-onto}
 use Rattle.labels.specs.Crc.{crc}
 use Rattle.labels.specs.Codes.{with_crc}
 use Rattle.labels.specs.Spelling.{capital, digit_in, behind, in_print}
@@ -75,15 +74,10 @@ pub label-length : (c : List ℕ) → length (label_text c) ≡ 3 * length c + 5
 unfolding label_text
 label-length c = length-print (with_crc c) ∙ omega (arith, length-with c)
 
--- code and CRC, laid into zeros one behind the other
-pub whole-laid : (c w v t d : List ℕ) → w ≡ pasted (replicate 18 0) 0 c → d ≡ spelled 2 (crc c) → v ≡ pasted w (length c) d
-    → t ≡ take (length c + 2) v → length c ≤ 16 → t ≡ with_crc c
+-- code and CRC, laid into an array one behind the other
+pub whole-laid : (c b r d : List ℕ) (k : ℕ) → b ≡ c → d ≡ spelled 2 (crc c) → take (length c + 2) (put_mid (length c) k (b ++ r) d) ≡ with_crc c
 unfolding with_crc
-whole-laid c w v t d p q s e h =
-    let first : w ≡ onto c (replicate 18 0) = pasted-onto w (replicate 18 0) c p (omega arith) in
-    let long : length w ≡ 18 = ap length first ∙ length-onto c (replicate 18 0) (omega arith) in
-    let two : length d ≡ 2 = ap length q in
-    let both : v ≡ paste w (length c) d 2 = pasted-whole v w (length c) d 2 s two (omega arith) in
-    let front : take (length c) w ≡ c = ap (take (length c)) first ∙ take_at c (drop (length c) (replicate 18 0)) (length c) refl in
-    e ∙ ap (take (length c + 2)) both ∙ take-paste w (length c) d 2 (omega arith) (omega arith)
-    ∙ ap₂ (λ (x y : List ℕ). x ++ y) front (take_all 2 d (omega arith) ∙ q)
+whole-laid c b r d k p q =
+    let n : length b ≡ length c = ap length p in
+    take-put_mid (length c) k (b ++ r) d (length c + 2) (omega (arith, ap length q)) (omega (arith, n, length-append b r))
+    ∙ ap₂ (λ (x y : List ℕ). x ++ y) (take_at b r (length c) n ∙ p) q

@@ -5,7 +5,6 @@ ghost use Rattle.labels.specs.Answers.{told_printed};
 ghost use Rattle.labels.specs.Spelling.{capital, digit_in, in_print};
 ghost use Rattle.labels.specs.Printing.{as_printed, printing, print_label};
 
-use crate::Printed;
 use crate::codes::{MOST_OCTETS, code_length};
 use crate::crc::crc_octets;
 use answers::Refusal;
@@ -13,22 +12,21 @@ use answers::Refusal;
 // Prints the label of a code at the start of out: code and CRC in capitals, one space between octets.
 // Refused are a code of another length than 6, 8, 12 or 16 (15), then an output without room (1); out
 // is then as it stood.
-pub fn print_label(code: &[u8], out: &mut [u8]) -> Printed
+pub fn print_label(code: &[u8], out: &mut [u8]) -> Result<usize, Refusal>
     ensures { printing (told_printed result) out.new ≡ print_label code.now out.old }
 {
     let n = code.len();
     if !code_length(n) {
-        return Printed::Refused(Refusal::Label);
+        return Err(Refusal::Label);
     }
     if out.len() < 3 * n + 5 {
-        return Printed::Refused(Refusal::Room);
+        return Err(Refusal::Room);
     }
     let mut whole = [0u8; MOST_OCTETS];
-    octets::paste_at(&mut whole, 0, code);
-    let crc = crc_octets(code);
-    octets::paste_at(&mut whole, n, &crc);
-    lay_text(text::front(&whole, n + 2), out);
-    Printed::Text(3 * n + 5)
+    whole[..n].copy_from_slice(code);
+    whole[n..n + 2].copy_from_slice(&crc_octets(code));
+    lay_text(&whole[..n + 2], out);
+    Ok(3 * n + 5)
 }
 
 // The octets s in print, laid at the front of out.

@@ -71,27 +71,18 @@ fn past_digit(next: Next) -> Next
     }
 }
 
+#[tactic(auto, unfolding(crate::specs::Reading::separator))]
 fn is_separator(c: u8) -> bool
     ensures { result ≡ separator c }
 {
-    match c {
-        b' ' => true,
-        b'-' => true,
-        _ => false,
-    }
+    matches!(c, b' ' | b'-')
 }
 
 // How many digits s has: all but the separators.
 pub(crate) fn count_digits(s: &[u8]) -> usize
     ensures { result ≡ length (digits_in s.now) }
 {
-    let mut n: usize = 0;
-    for i in 0..s.len() {
-        if !is_separator(s[i]) {
-            n += 1;
-        }
-    }
-    n
+    s.iter().filter(|&&c| !is_separator(c)).count()
 }
 
 // Lays these digits at the front of out.
@@ -99,12 +90,7 @@ pub(crate) fn lay_digits(s: &[u8], out: &mut [u8])
     requires { length (digits_in s.now) ≤ length out.old }
     ensures { out.new ≡ onto (digits_in s.now) out.old }
 {
-    let mut n: usize = 0;
-    for i in 0..s.len() {
-        let c = s[i];
-        if !is_separator(c) {
-            out[n] = c;
-            n += 1;
-        }
+    for (n, &c) in s.iter().filter(|&&c| !is_separator(c)).enumerate() {
+        out[n] = c;
     }
 }
