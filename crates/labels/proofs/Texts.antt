@@ -8,7 +8,7 @@ use Prim.Native.Nat.{ℕ, ◌+◌, ◌<◌, ◌≤◌}
 use native.Mathlib.Nat.{zero-add}
 use native.Mathlib.Omega.{arith}
 use lib.Dec.{eqb}
-use lib.ListN.{length, get_or, set, take, drop, drop_of_length-le}
+use lib.ListN.{length, get_or, set, take, drop}
 use lib.Seq.{take-length}
 use borrow.Author.Tests.{eqb-true, le-ltb}
 use Rattle.std.specs.List.{filter, enumerate_from}
@@ -17,12 +17,11 @@ use Rattle.std.proofs.lemmas.List.FromFn.{length-enumerate_from, get_or-enumerat
 use Rattle.std.specs.Prelude.{if◌then◌else◌}
 use Rattle.octets.specs.Choice.{both}
 use Rattle.octets.proofs.Choices.{both_true}
-use Rattle.octets.proofs.Tabs.{drop-step}
 use Rattle.octets.specs.Lists.{onto}
 use Rattle.text.proofs.Placed.{front-more}
 use Rattle.text.specs.Digits.{digit_of}
 use Rattle.labels.specs.declared.spelling.Next.{Next}
-use Rattle.labels.specs.declared.spelling.Next.TheVariants.{Octet, Digit, Behind, Wrong}
+use Rattle.labels.specs.declared.spelling.Next.TheVariants.{Octet, Digit, Behind}
 use Rattle.labels.specs.Reading.{separator, hex_digit, spells, digits_in}
 use Rattle.labels.specs.Code.{spells_on}
 
@@ -63,18 +62,12 @@ spells-on (a ∷ b ∷ []) = ap (both (hex_digit a)) (sym (both_true (hex_digit 
 spells-on (a ∷ b ∷ c ∷ s) =
     ap (λ t. both (hex_digit a) (both (hex_digit b) t)) (ap₂ (λ t u. if separator c then t else u) (spells-on s) (spells-on (c ∷ s)))
 
-pub wrong_stays : (s : List ℕ) → spells_on s Wrong ≡ false
+-- what is no digit may stand behind an octet alone, and only if it is a separator
+pub no-digit : (c : ℕ) (s : List ℕ) (n : Next) → hex_digit c ≡ false → (n ≡ Behind → separator c ≡ false) → spells_on (c ∷ s) n ≡ false
 unfolding spells_on
-wrong_stays [] = refl
-wrong_stays (c ∷ s) = refl
-
--- what is neither digit nor separator is wrong everywhere
-pub neither : (c : ℕ) (s : List ℕ) (n : Next) → separator c ≡ false → hex_digit c ≡ false → spells_on (c ∷ s) n ≡ spells_on s Wrong
-unfolding spells_on
-neither c s Octet p q = rw q (sym (wrong_stays s))
-neither c s Digit p q = rw q (sym (wrong_stays s))
-neither c s Behind p q = rw (p, q) (sym (wrong_stays s))
-neither c s Wrong p q = sym (wrong_stays s)
+no-digit c s Octet p q = rw p
+no-digit c s Digit p q = rw p
+no-digit c s Behind p q = rw (q refl, p)
 
 -- ---- its digits
 
@@ -86,23 +79,6 @@ digits-filter (c ∷ s) = go (separator c) (digits-filter s)
     go : (t : Bool) {l m : List ℕ} → l ≡ m → (if t then l else c ∷ l) ≡ cond (not t) (c ∷ m) m
     go true e = e
     go false e = ap (λ l. c ∷ l) e
-
-module _ (s : List ℕ) (i : ℕ) where
-  pub digits-pass : i < length s → separator (get_or s i 0) ≡ true → digits_in (drop i s) ≡ digits_in (drop (i + 1) s)
-  unfolding digits_in
-  digits-pass h e = rw (drop-step s i h, e)
-
-  pub digits-take : i < length s → separator (get_or s i 0) ≡ false → digits_in (drop i s) ≡ get_or s i 0 ∷ digits_in (drop (i + 1) s)
-  unfolding digits_in
-  digits-take h e = rw (drop-step s i h, e)
-
-  pub digits-end : length s ≤ i → digits_in (drop i s) ≡ []
-  unfolding digits_in
-  digits-end h = rw (drop_of_length-le s h)
-
--- nothing is left behind the last place of a text
-pub spells-end : (s : List ℕ) (i : ℕ) (n : Next) → length s ≤ i → spells_on (drop i s) n ≡ spells_on [] n
-spells-end s i n h = ap (λ l. spells_on l n) (drop_of_length-le s h)
 
 -- ---- its digits laid, one after the other
 
