@@ -1,15 +1,16 @@
 -- The octets of a label in print, place by place: each has a space and two digits, but for the first, which has no space.
 -- Assumes nothing.
-use mathlib.Core.Path.{◌≡◌, refl, ap, ap₂, ◌∙◌}
+use mathlib.Core.Path.{◌≡◌, refl, sym, ap, ap₂, ◌∙◌}
 use mathlib.Core.List.{List, [], ◌∷◌, ◌++◌}
 use Prim.Native.Nat.{ℕ, zero, suc, ◌+◌, ◌-◌, ◌*◌, ◌/◌, ◌%◌, ◌≤◌, ◌<◌}
 use native.Mathlib.Nat.{not-suc-le-zero, le_of_suc-le-suc}
 use native.Mathlib.Omega.{arith}
-use lib.ListN.{length, get_or, take, length-append}
+use lib.ListN.{length, get_or, set, take, drop, length-append}
 use lib.Seq.{take_at}
 use borrow.Rule.Slice.PartMut.{put_mid}
 use Rattle.std.proofs.lemmas.Slice.{take-put_mid}
 use Rattle.octets.specs.Least.{spelled}
+use Rattle.text.proofs.Placed.{front-more}
 use Rattle.labels.specs.Crc.{crc}
 use Rattle.labels.specs.Codes.{with_crc}
 use Rattle.labels.specs.Spelling.{capital, digit_in, behind, in_print}
@@ -45,23 +46,43 @@ print-behind [] k h l = absurd (omega arith)
 print-behind (x ∷ s) zero h l = absurd (omega arith)
 print-behind (x ∷ s) (suc k) h l = let e : suc k - 1 ≡ k = omega arith in rw e
 
-module _ (s : List ℕ) (k : ℕ) (h : 1 ≤ k) (l : k < 3 * length s) where
-  there : (j x : ℕ) → k % 3 ≡ j → j < 3 → get_or (behind as_printed (get_or s (k / 3) 0 ∷ [])) j 0 ≡ x → get_or (in_print as_printed s) (k - 1) 0 ≡ x
-  there j x r b e =
-      let n : k ≡ 3 * (k / 3) + j = omega arith in
-      print-behind s k h l ∙ ap (λ (m : ℕ). get_or (behind as_printed s) m 0) n ∙ placed s (k / 3) j x (omega arith) e b
+-- the places of octet k: a space, but before the first, and two digits
+module _ (s : List ℕ) (k : ℕ) (h : k < length s) where
+  there : (j x : ℕ) → 1 ≤ 3 * k + j → j < 3 → get_or (behind as_printed (get_or s k 0 ∷ [])) j 0 ≡ x
+      → get_or (in_print as_printed s) (3 * k + j - 1) 0 ≡ x
+  there j x l b e = print-behind s (3 * k + j) l (omega arith) ∙ placed s k j x h e b
 
-  pub space-there : k % 3 ≡ 0 → get_or (in_print as_printed s) (k - 1) 0 ≡ 0x20
+  space-there : 1 ≤ k → get_or (in_print as_printed s) (3 * k - 1) 0 ≡ 0x20
   unfolding behind
-  space-there r = there 0 0x20 r (omega arith) refl
+  space-there l = let n : 3 * k + 0 - 1 ≡ 3 * k - 1 = omega arith in rw n at (there 0 0x20 (omega arith) (omega arith) refl)
 
-  pub high-there : k % 3 ≡ 1 → get_or (in_print as_printed s) (k - 1) 0 ≡ digit_in capital (get_or s (k / 3) 0 / 16)
+  high-there : get_or (in_print as_printed s) (3 * k) 0 ≡ digit_in capital (get_or s k 0 / 16)
   unfolding behind
-  high-there r = there 1 _ r (omega arith) refl
+  high-there = let n : 3 * k + 1 - 1 ≡ 3 * k = omega arith in rw n at (there 1 _ (omega arith) (omega arith) refl)
 
-  pub low-there : k % 3 ≡ 2 → get_or (in_print as_printed s) (k - 1) 0 ≡ digit_in capital (get_or s (k / 3) 0 % 16)
+  low-there : get_or (in_print as_printed s) (3 * k + 1) 0 ≡ digit_in capital (get_or s k 0 % 16)
   unfolding behind
-  low-there r = there 2 _ r (omega arith) refl
+  low-there = let n : 3 * k + 2 - 1 ≡ 3 * k + 1 = omega arith in rw n at (there 2 _ (omega arith) (omega arith) refl)
+
+-- the octets s in print, of which n places are laid at the front of what was o
+abbrev pub laid : List ℕ → List ℕ → ℕ → List ℕ
+laid s o n = take n (in_print as_printed s) ++ drop n o
+
+-- octet k laid, with the space before it
+module _ (s o : List ℕ) (k : ℕ) (h : k < length s) (r : 3 * length s ≤ length o + 1) where
+  more : (n x : ℕ) → n < 3 * length s - 1 → get_or (in_print as_printed s) n 0 ≡ x → set (laid s o n) n x ≡ laid s o (n + 1)
+  more n x l e = ap (set (laid s o n) n) (sym e) ∙ front-more o (in_print as_printed s) n (omega arith) (omega (arith, length-print s))
+
+  pub space-laid : 1 ≤ k → set (laid s o (3 * k - 1)) (3 * k - 1) 0x20 ≡ laid s o (3 * k)
+  space-laid l = let n : 3 * k - 1 + 1 ≡ 3 * k = omega arith in rw n at (more (3 * k - 1) 0x20 (omega arith) (space-there s k h l))
+
+  pub digits-laid : (m : List ℕ) (a b i : ℕ) → m ≡ laid s o (3 * k) → a ≡ digit_in capital (get_or s k 0 / 16)
+      → b ≡ digit_in capital (get_or s k 0 % 16) → i ≡ k + 1 → set (set m (3 * k) a) (3 * k + 1) b ≡ laid s o (3 * i - 1)
+  digits-laid m a b i e p q w =
+      let n : 3 * (k + 1) - 1 ≡ 3 * k + 1 + 1 = omega arith in
+      rw (e, p, q, w, n)
+      (ap (λ (l : List ℕ). set l (3 * k + 1) (digit_in capital (get_or s k 0 % 16))) (more (3 * k) _ (omega arith) (high-there s k h))
+      ∙ more (3 * k + 1) _ (omega arith) (low-there s k h))
 
 -- ---- the whole label
 

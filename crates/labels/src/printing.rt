@@ -29,40 +29,25 @@ pub fn print_label(code: &[u8], out: &mut [u8]) -> Result<usize, Refusal>
     Ok(3 * n + 5)
 }
 
-// The octets s in print, laid at the front of out.
+// The octets s in print, laid at the front of out: each has three places but the first, which has no space before it.
 fn lay_text(s: &[u8], out: &mut [u8])
     requires { 3 * length s.now ≤ length out.old + 1 }
     ensures { out.new ≡ onto (in_print as_printed s.now) out.old }
 {
-    let end = 3 * s.len();
-    for k in 1..end {
-        out[k - 1] = letter(s, k);
+    for (k, &x) in s.iter().enumerate() {
+        let at = 3 * k;
+        if 0 < k {
+            out[at - 1] = b' ';
+        }
+        out[at] = capital(x / 16);
+        out[at + 1] = capital(x % 16);
     }
 }
 
-// What stands at place k - 1 of the octets s in print, each of which has three places but the first,
-// which has no space before it.
-fn letter(s: &[u8], k: usize) -> u8
-    requires le_k { 1 ≤ k }
-    requires k_bound { k < 3 * length s.now }
-    ensures { result ≡ get_or (in_print as_printed s.now) (k - 1) 0 }
-{
-    let x = s[k / 3];
-    if k % 3 == 0 {
-        return b' ';
-    }
-    if k % 3 == 1 {
-        return capital(x / 16);
-    }
-    capital(x % 16)
-}
-
+#[tactic(auto, unfolding(crate::specs::Spelling::digit_in))]
 fn capital(d: u8) -> u8
     requires { d < 16 }
     ensures { result ≡ digit_in capital d }
 {
-    if d < 10 {
-        return b'0' + d;
-    }
-    b'A' + (d - 10)
+    if d < 10 { b'0' + d } else { b'A' + (d - 10) }
 }

@@ -4,7 +4,7 @@ use mathlib.Core.List.{List}
 use mathlib.Core.Path.{◌≡◌, ◌∙◌}
 use Prim.Native.Nat.{◌<◌}
 use native.Mathlib.Omega.{arith}
-use lib.ListN.{length, get_or, length-set}
+use lib.ListN.{length, get_or}
 use borrow.Author.Tests.{tests}
 use Rattle.std.proofs.Common.{rules, Option, Some, None}
 use Rattle.std.proofs.lemmas.Iterator.{YieldsList, YieldsList-from_slice}
@@ -47,15 +47,14 @@ loop-n-preserved c =
     let t = there (goal.at.loop-n-preserved c).In-Some in (
       search rules,
       search rules,
-      simp length-set l.invariant.2,
-      laid-more c.args.s.now c.args.out.now l.out _ _ _ _ l.invariant.3 t.0 c.requires t.1 t.2 (length_push l.yielded _),
+      laid-more c.args.s.now c.args.out.now l.out _ _ _ _ l.invariant.2 t.0 c.requires t.1 t.2 (length_push l.yielded _),
     )
 
 pub returns : goal.returns
 returns c =
     let l = c.loop-n in
     let all = enumerate_from 0 (filter (λ x. not (separator x)) c.args.s.now) in
-    laid-all c.args.s.now c.args.out.now l.out _ l.invariant.3
+    laid-all c.args.s.now c.args.out.now l.out _ l.invariant.2
     (ended (λ p. (p.0, p.1.now)) all _ _ l.yielded_by _ _ c.in-None.is c.next.ensures.steps
     (YieldsList-at c.into_iter-n-iterator.ensures.into_iter_gives
     (YieldsList-from_enumerate

@@ -8,5 +8,4 @@ use Rattle.labels.proofs.spelling.lay_digits.Given as goal
 abbrev pub invariant-loop-n : goal.invariant-loop-n
 invariant-loop-n l =
     (goal.iterator-loop-n).can_next l.n-iterator × (goal.iterator-loop-n).is_finite l.n-iterator
-    × (length l.out ≡ length l.initial.out)
     × (l.out ≡ take (length l.yielded) (digits_in l.s) ++ drop (length l.yielded) l.initial.out)
