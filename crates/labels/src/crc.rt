@@ -27,8 +27,5 @@ fn taken_in(c: u16, x: u8) -> u16
 fn shifted(c: u16) -> u16
     ensures { result ≡ shifted c }
 {
-    if c % 2 == 1 {
-        return (c / 2) ^ 0x8408;
-    }
-    c / 2
+    if c % 2 == 1 { (c / 2) ^ 0x8408 } else { c / 2 }
 }

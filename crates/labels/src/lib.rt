@@ -12,7 +12,7 @@ mod spelling;
 pub use printing::print_label;
 pub use reading::read_label;
 
-// An install code, at the front of 16 octets with zeros behind it, and its link key.
+// An install code of that many octets, at the front of 16 with zeros behind it, and its link key.
 #[derive(Clone, Copy, Debug, PartialEq, Eq)]
 pub struct Label {
     pub length: usize,

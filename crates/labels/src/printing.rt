@@ -9,9 +9,9 @@ use crate::codes::{MOST_OCTETS, code_length};
 use crate::crc::crc_octets;
 use answers::Refusal;
 
-// Prints the label of a code at the start of out: code and CRC in capitals, one space between octets.
-// Refused are a code of another length than 6, 8, 12 or 16 (15), then an output without room (1); out
-// is then as it stood.
+// Prints the label of a code at the start of out, code and CRC in capitals with one space between octets,
+// and answers how many octets the text has. Refused are a code of another length than 6, 8, 12 or 16 (15),
+// then an output without room (1); out is then as it stood.
 pub fn print_label(code: &[u8], out: &mut [u8]) -> Result<usize, Refusal>
     ensures { printing (told_printed result) out.new ≡ print_label code.now out.old }
 {

@@ -24,6 +24,7 @@ pub fn read_label(s: &[u8]) -> Result<Label, Refusal>
     let mut digits = [0u8; MOST_DIGITS];
     lay_digits(s, &mut digits);
     let mut octets = [0u8; MOST_OCTETS];
+    // They are hex of whole octets, and there is room for these.
     let length = text::octets_of(&digits[..n], &mut octets).unwrap();
     judge(&octets[..length])
 }

@@ -13,5 +13,6 @@ pub returns : goal.returns
 returns c =
     let s = c.args.s.now in
     count_from_yields_List c.filter.result _ c.count.ensures.ran
-    (YieldsList-from_filter _ (λ x. not (separator x)) (YieldsList-from_slice s (cc)) c.filter.ensures.closure (λ x r q k. search (rules, tests)))
+    (YieldsList-from_filter _ (λ x. not (separator x)) (YieldsList-from_slice s (cc))
+    c.filter.ensures.closure (λ x r q k. search (rules, tests)))
     ∙ ap length (sym (digits-filter s))

@@ -8,7 +8,8 @@ use lib.ListN.{length, get_or}
 use borrow.Author.Tests.{tests}
 use Rattle.std.proofs.Common.{rules, Option, Some, None}
 use Rattle.std.proofs.lemmas.Iterator.{YieldsList, YieldsList-from_slice}
-use Rattle.std.proofs.lemmas.Iterator.Consumers.{YieldsList-at, YieldsList-from_filter, YieldsList-from_enumerate, YieldsList-turn, YieldsList-end}
+use Rattle.std.proofs.lemmas.Iterator.Consumers.{YieldsList-at, YieldsList-from_filter, YieldsList-from_enumerate}
+use Rattle.std.proofs.lemmas.Iterator.Consumers.{YieldsList-turn, YieldsList-end}
 use Rattle.std.proofs.lemmas.List.{length_push}
 use Rattle.std.specs.Iterator.{Yields}
 use Rattle.std.specs.List.{filter, enumerate_from}
@@ -35,7 +36,8 @@ there c =
     (YieldsList-at c.into_iter-n-iterator.ensures.into_iter_gives
     (YieldsList-from_enumerate
     (YieldsList-at c.enumerate-n-items.ensures.source
-    (YieldsList-from_filter _ (λ x. not (separator x)) (YieldsList-from_slice c.args.s.now (cc)) c.filter.ensures.closure (λ x r q k. search (rules, tests))))
+    (YieldsList-from_filter _ (λ x. not (separator x)) (YieldsList-from_slice c.args.s.now (cc))
+    c.filter.ensures.closure (λ x r q k. search (rules, tests))))
     c.enumerate-n-items.ensures.count)))
 
 pub bounds-out-n : goal.bounds-out-n
@@ -59,6 +61,7 @@ returns c =
     (YieldsList-at c.into_iter-n-iterator.ensures.into_iter_gives
     (YieldsList-from_enumerate
     (YieldsList-at c.enumerate-n-items.ensures.source
-    (YieldsList-from_filter _ (λ x. not (separator x)) (YieldsList-from_slice c.args.s.now (cc)) c.filter.ensures.closure (λ x r q k. search (rules, tests))))
+    (YieldsList-from_filter _ (λ x. not (separator x)) (YieldsList-from_slice c.args.s.now (cc))
+    c.filter.ensures.closure (λ x r q k. search (rules, tests))))
     c.enumerate-n-items.ensures.count))
     ∙ digits-told c.args.s.now)
