@@ -10,7 +10,7 @@ use lib.Dec.{ltb}
 use Rattle.std.proofs.Common.{◌&&◌}
 use Rattle.std.specs.List.{list_all}
 use lib.ListN.{length, get_or, drop, drop_of_length-le}
-use borrow.Author.Tests.{lt-ltb, le-ltb, ltb-true}
+use borrow.Author.Tests.{ltb-true}
 use Rattle.octets.proofs.Tabs.{drop-step}
 use Rattle.octets.specs.Choice.{both}
 use Rattle.text.specs.Digits.{digit_of, all_digits, spelt}
@@ -26,18 +26,6 @@ all-digits b [] = refl
 all-digits b (c ∷ l) = and-both (ltb (digit_of c) b) (list_all (λ d. ltb (digit_of d) b) l) ∙ ap (both (ltb (digit_of c) b)) (all-digits b l)
 
 module _ (b : ℕ) (l : List ℕ) (i : ℕ) where
-  pub digits-not : i < length l → b ≤ digit_of (get_or l i 0) → all_digits b (drop i l) ≡ false
-  unfolding all_digits
-  digits-not h k = rw (drop-step l i h, le-ltb (digit_of (get_or l i 0)) b k)
-
-  pub digits_more : i < length l → digit_of (get_or l i 0) < b → all_digits b (drop i l) ≡ all_digits b (drop (i + 1) l)
-  unfolding all_digits
-  digits_more h k = rw (drop-step l i h, lt-ltb (digit_of (get_or l i 0)) b k)
-
-  pub digits-end : length l ≤ i → all_digits b (drop i l) ≡ true
-  unfolding all_digits
-  digits-end h = rw (drop_of_length-le l h)
-
   pub spelt-more : (n : ℕ) → i < length l → spelt b n (drop i l) ≡ spelt b (n * b + digit_of (get_or l i 0)) (drop (i + 1) l)
   unfolding spelt
   spelt-more n h = rw (drop-step l i h)

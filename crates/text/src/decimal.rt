@@ -43,7 +43,7 @@ fn zero_led(s: &[u8]) -> bool
     matches!(s, [b'0', _, ..])
 }
 
-// The number that s spells, if it is at most that. A number of more than 32 bits is.
+// The number that s spells, if it is at most that; what does not fit 32 bits is above every limit.
 fn value(s: &[u8], most: u32) -> Option<u32>
     ensures { result ≡ at_most most (spelt 10 0 s.now) }
 {

@@ -24,7 +24,9 @@ pub fn which(words: &[u8], w: &[u8]) -> usize
     ensures { result ≡ which words.now w.now }
 {
     let n = count(words);
-    (0..n).find(|k| octets::same(field(words, *k), w)).unwrap_or(n)
+    (0..n)
+        .find(|k| octets::same(field(words, *k), w))
+        .unwrap_or(n)
 }
 
 // Where the rest of the line behind k tabs begins. A k beyond the line's tabs ends at its end, in

@@ -20,9 +20,9 @@ returns-then-end-line c =
       omega arith,
       none
           ∙ sym (l.invariant.1
-              ∙ behind_more (drop l.at line) (drop end line) left (omega arith)
-              (after_none line l.at end (next line l.at c.tab.result c.tab.ensures.place) (omega arith))
-              ∙ ap (behind (left - 1)) none ∙ behind-none (left - 1)),
+          ∙ behind_more (drop l.at line) (drop end line) left (omega arith)
+          (after_none line l.at end (next line l.at c.tab.result c.tab.ensures.place) (omega arith))
+          ∙ ap (behind (left - 1)) none ∙ behind-none (left - 1)),
     )
 
 pub loop-preserved : goal.loop-preserved
