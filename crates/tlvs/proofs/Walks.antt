@@ -136,9 +136,9 @@ module _ (w : Wanted) (s : List ℕ) (x : Option Value) (rest : List ℕ) (e : S
 -- ---- filling
 
 -- whatever is looked for, a walk that does not end ill was over TLVs that fill
-pub fills-walked : (w : Wanted) (s : List ℕ) → is_ok (walked w s) ≡ fills s
+pub fills_walked : (w : Wanted) (s : List ℕ) → is_ok (walked w s) ≡ fills s
 unfolding fills walked
-fills-walked w s = go (tlvs_from 0 0 s)
+fills_walked w s = go (tlvs_from 0 0 s)
   where
     go : (ts : Tlvs) → is_ok (looked_in w ts) ≡ filled ts
     go ill = refl

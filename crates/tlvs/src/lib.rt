@@ -65,6 +65,7 @@ fn walk(s: &[u8], w: Wanted) -> Result<Option<Value>, Ill>
 }
 
 // Whether TLVs, zero or more, fill s exactly.
+#[tactic(auto, using(crate::proofs::Walks::fills_walked))]
 pub fn fills(s: &[u8]) -> bool
     ensures { result ≡ fills s.now }
 {
