@@ -2,6 +2,6 @@ pub mod Fed
 pub mod Written
 pub mod AllLines
 pub mod Formed
-pub mod Lending
 pub mod Turned
 pub mod Refusing
+pub mod Spelt

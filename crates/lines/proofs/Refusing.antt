@@ -61,9 +61,9 @@ refusal-fits Crc = refl
 refusal-fits Mark = refl
 
 -- word, number and word, one put behind the other
-pub refused-so : (r : Refusal) {n : ℕ} {f a w x : List ℕ} → n ≡ number_of r → f ≡ more room [] refused_word → a ≡ field f (decimal n)
+pub refused_so : (r : Refusal) {n : ℕ} {f a w x : List ℕ} → n ≡ number_of r → f ≡ more room [] refused_word → a ≡ field f (decimal n)
     → w ≡ field_at table n → x ≡ field a w → x ≡ refusal r
-refused-so r number first second word all =
+refused_so r number first second word all =
     let told = second ∙ ap₂ (λ f n. field f (decimal n)) first number in
     let its = word ∙ ap (field_at table) number ∙ word-there r in
     all ∙ ap₂ field told its ∙ refusal-fits r

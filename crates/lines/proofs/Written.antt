@@ -1,11 +1,10 @@
--- Laws of an answer that is being written: a text laid behind it, and a whole line, which has room.
+-- Laws of octets that are being written: a text laid behind them, and a whole line, which has room.
 -- Assumes nothing.
-use Rattle.std.proofs.Common.{◌≡◌, ℕ, zero, suc, ◌+◌, ◌/◌, ◌<◌, ◌≤◌, Bool, true, false, ltb, leb, List, [], ◌∷◌, ◌++◌, length, take, sym, refl, ap, ◌∙◌, ap₂, append-nil, arith, length-append, length-take, length-take-le, take_all, le-leb, leb-false, leb-true}
-use lib.Seq.{take-paste, take-length, length-paste}
+use Rattle.std.proofs.Common.{◌≡◌, ℕ, zero, suc, ◌+◌, ◌/◌, ◌<◌, ◌≤◌, Bool, true, false, ltb, leb, List, [], ◌∷◌, ◌++◌, length, take, sym, refl, ap, ◌∙◌, arith, length-append, length-take-le, le-leb, leb-false, leb-true}
+use lib.Seq.{take-paste, take-length}
 use borrow.Author.Tests.{lt-leb}
 use Rattle.std.specs.Prelude.{if◌then◌else◌}
 use Rattle.octets.specs.Lists.{pasted}
-use Rattle.octets.proofs.Pasted.{pasted-fits, pasted-not}
 use Rattle.text.specs.Cursor.{ahead}
 use Rattle.text.specs.Decimal.{decimal, decimal_in}
 use Rattle.lines.specs.Answer.{room, more, whole_line}
@@ -18,59 +17,43 @@ pub more-not : (n : ℕ) (l s : List ℕ) → n < length l + length s → more n
 unfolding more
 more-not n l s h = rw (lt-leb (length l + length s) n h)
 
--- behind a full output
-beyond : (o s : List ℕ) → o ≡ more (length o) o s
-beyond o [] = sym (more-fits (length o) o [] (omega arith) ∙ append-nil o)
-beyond o (c ∷ s) = sym (more-not (length o) o (c ∷ s) (omega arith))
+-- the first i octets of o, with s laid behind them
+module _ (o : List ℕ) (i : ℕ) (s : List ℕ) (h : i ≤ length o) where
+  front : length (take i o) ≡ i
+  front = length-take-le i o h
 
-module _ (o : List ℕ) (i : ℕ) (s : List ℕ) where
   -- where there is room
-  laid-fits : i + length s ≤ length o → take (ahead o i s) (pasted o i s) ≡ more (length o) (take i o) s
+  laid-fits : i + length s ≤ length o
+      → (ahead o i s ≤ length o) × (take (ahead o i s) (pasted o i s) ≡ more (length o) (take i o) s)
   unfolding ahead
-  laid-fits h =
-      let e : length (take i o) ≡ i = length-take-le i o (omega arith) in
-      rw (le-leb (i + length s) (length o) h)
-      (take-paste o i s (length s) (omega arith) (omega arith) ∙ ap (λ (x : List ℕ). take i o ++ x) (take-length s)
-      ∙ sym (more-fits (length o) (take i o) s (rw e h)))
+  laid-fits k =
+      rw (le-leb (i + length s) (length o) k) (
+        k,
+        take-paste o i s (length s) (omega arith) (omega arith) ∙ ap (λ (x : List ℕ). take i o ++ x) (take-length s)
+            ∙ sym (more-fits (length o) (take i o) s (rw front k)),
+      )
 
-  -- where there is none, or the place is not in the output
-  laid-not : length o < i + length s → take (ahead o i s) (pasted o i s) ≡ more (length o) (take i o) s
+  -- where there is none
+  laid-not : length o < i + length s
+      → (ahead o i s ≤ length o) × (take (ahead o i s) (pasted o i s) ≡ more (length o) (take i o) s)
   unfolding ahead
-  laid-not h = rw (lt-leb (i + length s) (length o) h) (go (leb i (length o)) refl)
-    where
-      go : (t : Bool) → leb i (length o) ≡ t → take i o ≡ more (length o) (take i o) s
-      go true e =
-          let k : i ≤ length o = leb-true i (length o) e in
-          let m : length (take i o) ≡ i = length-take-le i o k in
-          sym (more-not (length o) (take i o) s (rw m h))
-      go false e =
-          let k : length o ≤ i = omega (arith, leb-false i (length o) e) in
-          rw (take_all i o k) (beyond o s)
+  laid-not k =
+      rw (lt-leb (i + length s) (length o) k) (h, sym (more-not (length o) (take i o) s (rw front k)))
 
-  laid_both : take (ahead o i s) (pasted o i s) ≡ more (length o) (take i o) s
-  laid_both = go (leb (i + length s) (length o)) refl
+  laid-both : (ahead o i s ≤ length o) × (take (ahead o i s) (pasted o i s) ≡ more (length o) (take i o) s)
+  laid-both = go (leb (i + length s) (length o)) refl
     where
-      go : (t : Bool) → leb (i + length s) (length o) ≡ t → take (ahead o i s) (pasted o i s) ≡ more (length o) (take i o) s
+      go : (t : Bool) → leb (i + length s) (length o) ≡ t
+          → (ahead o i s ≤ length o) × (take (ahead o i s) (pasted o i s) ≡ more (length o) (take i o) s)
       go true e = laid-fits (leb-true (i + length s) (length o) e)
       go false e = laid-not (leb-false (i + length s) (length o) e)
 
-  -- what stands at the front of the output, once s was laid behind it
-  pub laid : {l : List ℕ} {r n : ℕ} → l ≡ pasted o i s → r ≡ ahead o i s → length o ≡ n → take r l ≡ more n (take i o) s
-  laid e f g = ap₂ (λ (k : ℕ) (x : List ℕ). take k x) f e ∙ laid_both ∙ ap (λ (m : ℕ). more m (take i o) s) g
-
-  length-pasted : length (pasted o i s) ≡ length o
-  length-pasted = go (leb (i + length s) (length o)) refl
-    where
-      go : (t : Bool) → leb (i + length s) (length o) ≡ t → length (pasted o i s) ≡ length o
-      go true e =
-          let h : i + length s ≤ length o = leb-true (i + length s) (length o) e in
-          ap length (pasted-fits o i s h) ∙ length-paste o i s (length s) h (omega arith)
-      go false e = ap length (pasted-not o i s (leb-false (i + length s) (length o) e))
-
-  -- the same, and how long the output is then
-  pub laid_on : {l : List ℕ} {r n : ℕ} → l ≡ pasted o i s → r ≡ ahead o i s → length o ≡ n
-      → (take r l ≡ more n (take i o) s) × (length l ≡ n)
-  laid_on e f g = (laid e f g, ap length e ∙ length-pasted ∙ g)
+-- so of what the code leaves: there are no more octets than room, and they are those of before with s behind them
+pub laid : (o : List ℕ) (i : ℕ) (s : List ℕ) {l : List ℕ} {r n : ℕ} → (l ≡ pasted o i s) × (r ≡ ahead o i s) → length o ≡ n → i ≤ n
+    → (r ≤ n) × (take r l ≡ more n (take i o) s)
+laid o i s put g h =
+    let both = laid-both o i s (rw g h) in
+    rw (put.0, put.1, ← g) both
 
 -- a number of 20 digits at most
 pub length-decimal : (k n : ℕ) → length (decimal_in k n) ≤ k
@@ -83,18 +66,15 @@ length-decimal (suc k) n = go (length-decimal k (n / 10)) _ _ (ltb n 10)
     go h c d true = omega arith
     go h c d false = omega (arith, length-append (decimal_in k (n / 10)) (d ∷ []))
 
-pub front-short : (n : ℕ) (l : List ℕ) {m : ℕ} → length l ≡ m → length (take n l) ≤ m
-front-short n l e = simp length-take (omega (arith, e))
-
 digits : (k : ℕ) → length (decimal k) ≤ 20
 unfolding decimal
 digits k = length-decimal 20 k
 
--- number, tab, answer and line feed one behind the other, in room enough
 -- what a line has room for: number, tab, answer, line feed
 abbrev pub whole : ℕ
 whole = room + 22
 
+-- number, tab, answer and line feed one behind the other, in room enough
 pub whole-fits : (k : ℕ) (l : List ℕ) → length l ≤ room
     → more whole (more whole (more whole (more whole [] (decimal k)) (9 ∷ [])) l) (10 ∷ []) ≡ whole_line k l
 unfolding whole_line

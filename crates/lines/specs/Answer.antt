@@ -1,10 +1,10 @@
 -- The bench language: "The answer to line N is `N`, a tab, and one of `ok`, and the fields below, each after a tab; .."
 -- A tab is the octet 9, a line feed 10. Assumes nothing.
-use Rattle.std.specs.Prelude.{ℕ, ◌+◌, List, [], ◌∷◌, ◌++◌, length, take, nat_le}
+use Rattle.std.specs.Prelude.{ℕ, ◌+◌, List, [], ◌∷◌, ◌++◌, length, take, nat_le, Option, Some, None}
 use Rattle.std.specs.Prelude.{if◌then◌else◌}
 use Rattle.text.specs.Decimal.{decimal}
-use Rattle.lines.specs.declared.answer.Answer.{Answer}
-use Rattle.lines.specs.declared.answer.Whole.{Whole}
+use Rattle.text.specs.Hex.{is_hex, octets_of}
+use Rattle.lines.specs.declared.buffer.Octets.{Octets}
 
 -- how many octets an answer has room for
 abbrev pub room : ℕ
@@ -22,9 +22,13 @@ field l s = more room (more room l (9 ∷ [])) s
 unfoldable pub whole_line : ℕ → List ℕ → List ℕ
 whole_line k l = decimal k ++ (9 ∷ []) ++ l ++ (10 ∷ [])
 
--- an answer, and a line, as the code keeps it
-abbrev pub said : Answer → List ℕ
+-- the octets that l spells in hex, n of them at most, or nothing
+unfoldable pub hexed : ℕ → List ℕ → Option (List ℕ)
+hexed n l = if is_hex l n then Some (octets_of l) else None
+
+-- an answer, or any octets by value, as the code keeps them: those that count
+abbrev pub said : {n : ℕ} → Octets n → List ℕ
 said a = take a.n a.octets
 
-abbrev pub written : Whole → List ℕ
-written w = take w.n w.octets
+abbrev pub written : {n : ℕ} → Octets n → List ℕ
+written w = said w

@@ -3,21 +3,15 @@
 -- no leading zero. T is `none` or B." "X any octets but tabs, at most 256 of them for a label; G hex of 0 to 1,024 octets."
 -- Of a command: "Keys, hashes, inner frames and TLVs are of kind F"; their letters are k, h, i and t.
 -- Assumes nothing.
-use Rattle.std.specs.Prelude.{ℕ, ◌/◌, ◌%◌, Bool, true, false, List, [], ◌∷◌, length, ◌==◌, nat_le}
+use Rattle.std.specs.Prelude.{ℕ, ◌/◌, ◌%◌, Bool, List, [], ◌∷◌, length, ◌==◌, nat_le, Option, Some, None, is_some, unwrap_or}
 use Rattle.std.specs.Prelude.{if◌then◌else◌}
 use Rattle.octets.specs.Choice.{both}
 use Rattle.octets.specs.Lists.{eq_list}
 use Rattle.text.specs.Digits.{all_digits}
 use Rattle.text.specs.Decimal.{number_of}
 use Rattle.text.specs.Hex.{address_of}
-use Rattle.text.specs.declared.decimal.Number.{Number}
-use Rattle.text.specs.declared.hex.Address.{Address}
-use Rattle.text.specs.declared.decimal.Number.TheVariants as numbers
-use Rattle.text.specs.declared.hex.Address.TheVariants as addresses
 use Rattle.lines.specs.declared.forms.Kind.{Kind}
-use Rattle.lines.specs.declared.forms.Value.{Value}
 use Rattle.lines.specs.declared.forms.Kind.TheVariants as kinds
-use Rattle.lines.specs.declared.forms.Value.TheVariants.{Is, Bad}
 
 -- the kind that a letter stands for: A, B, S, C, T, K, F, G, X, and k, h, i, t
 unfoldable pub field_kind : ℕ → Kind
@@ -45,31 +39,22 @@ unfoldable pub whole_hex : List ℕ → Bool
 whole_hex l = both (length l % 2 == 0) (all_digits 16 l)
 
 -- so many, which are to be so many at least and at most
-unfoldable pub between : ℕ → ℕ → ℕ → Value
-between least most n = if both (nat_le least n) (nat_le n most) then Is n else Bad
+unfoldable pub between : ℕ → ℕ → ℕ → Option ℕ
+between least most n = if both (nat_le least n) (nat_le n most) then Some n else None
 
-abbrev pub of_address : Address → Value
-of_address (addresses.Is a) = Is a
-of_address addresses.Bad = Bad
-
-abbrev pub of_number : Number → Value
-of_number (numbers.Is n) = Is n
-of_number numbers.Bad = Bad
-
--- what the field l is worth by its kind; `none` is told as 256, octets by how many they are
-unfoldable pub value_of : Kind → List ℕ → Value
-value_of kinds.Word l = Is 0
-value_of kinds.Address l = of_address (address_of l)
-value_of (kinds.Decimal most) l = of_number (number_of l most)
-value_of kinds.Protection l = if eq_list l none then Is 256 else of_number (number_of l 255)
-value_of (kinds.Hex least most) l = if whole_hex l then between least most (length l / 2) else Bad
+-- what the field l is worth by its kind, or nothing; `none` is told as 256, octets by how many they are
+unfoldable pub value_of : Kind → List ℕ → Option ℕ
+value_of kinds.Word l = Some 0
+value_of kinds.Address l = address_of l
+value_of (kinds.Decimal most) l = number_of l most
+value_of kinds.Protection l = if eq_list l none then Some 256 else number_of l 255
+value_of (kinds.Hex least most) l = if whole_hex l then between least most (length l / 2) else None
 value_of (kinds.Text least most) l = between least most (length l)
 
-abbrev pub good : Value → Bool
-good (Is n) = true
-good Bad = false
+-- a field is good where it has a value
+abbrev pub good : Option ℕ → Bool
+good v = is_some v
 
 -- what a good field is worth; a bad one is worth 0
-abbrev pub worth : Value → ℕ
-worth (Is n) = n
-worth Bad = 0
+abbrev pub worth : Option ℕ → ℕ
+worth v = unwrap_or v 0

@@ -1,19 +1,13 @@
-use Rattle.std.proofs.Common.{refl, ap, ◌∙◌, rules}
-use Rattle.octets.proofs.Filled.{none, more, all}
-use Rattle.lines.specs.Kinds.{worth}
-use Rattle.lines.specs.Forms.{worth_at}
+-- Each number is that of its field, and there are eight of them.
+use Rattle.std.proofs.Common.{◌≡◌, ℕ, ◌<◌, get_or, arith, rules}
+use Rattle.octets.proofs.Filled.{all}
+use Rattle.lines.specs.Forms.{value_at, worth_at}
 use Rattle.lines.proofs.forms.numbers_of.Goals as goal
 
-pub loop-i-init : goal.loop-i-init
-loop-i-init c = none _ _ _ _ refl
-
-pub loop-i-preserved : goal.loop-i-preserved
-unfolding worth_at
-loop-i-preserved c =
-    let x = c.args in
-    let l = c.loop-i in
-    let read = c.number_in.ensures ∙ ap worth c.value_at.ensures in
-    more _ _ _ _ _ _ l.invariant (search rules) read
-
 pub returns : goal.returns
-returns c = all _ _ _ _ _ c.loop-i.invariant (search rules)
+unfolding worth_at value_at
+returns c =
+    let r = c.from_fn.result in
+    let made = c.from_fn.ensures.items in
+    let each : (k : ℕ) → k < 8 → get_or r k 0 ≡ worth_at c.args.line.now c.args.form.now k = λ k h. let at = made.at k 0 h in search rules in
+    all 8 0 (worth_at c.args.line.now c.args.form.now) 8 r (record { within = omega arith; long = made.long; upto = each }) (omega arith)

@@ -1,42 +1,22 @@
-use Rattle.std.proofs.Common.{◌≡◌, ℕ, ◌-◌, ◌/◌, sym, ap, ◌∙◌, arith, rules}
+-- The row that is found first, or how many there are.
+use Rattle.std.proofs.Common.{◌≡◌, ◌/◌, unwrap_or, ap, ◌∙◌, arith}
+use Rattle.std.specs.List.{find, range_with_len}
 use Rattle.text.specs.Fields.{fields}
-use Rattle.lines.specs.Forms.{row_from, row_of}
-use Rattle.lines.proofs.Formed.{rows_fit, row_is, row_more, row-none}
+use Rattle.lines.specs.Forms.{is_row, row_of}
+use Rattle.lines.proofs.Formed.{rows_fit, found-within}
 use Rattle.lines.proofs.forms.row_of.Goals as goal
-
-pub loop-r-init : goal.loop-r-init
-unfolding row_of
-loop-r-init c =
-    let x = c.args in
-    let n = c.count-n.result / 2 in
-    let e : fields x.table.now / 2 ≡ n - 0 = omega (arith, c.count-n.ensures) in
-    (search rules, ap (λ (m : ℕ). m / 2) c.count-n.ensures, ap (row_from x.table.now x.line.now x.k 0) e)
-
-pub returns-then-is_row : goal.returns-then-is_row
-returns-then-is_row c =
-    let x = c.args in
-    let l = c.loop-r in
-    let n = c.count-n.result / 2 in
-    let is = sym c.is_row.ensures ∙ c.if-is_row.true in (
-      sym (l.invariant.2 ∙ row_is x.table.now x.line.now x.k l.r n c.loop-r-test.true is),
-      omega (arith, rows_fit x.table.now, l.invariant.1),
-    )
-
-pub loop-r-preserved : goal.loop-r-preserved
-loop-r-preserved c =
-    let x = c.args in
-    let l = c.loop-r in
-    let n = c.count-n.result / 2 in
-    let not = sym c.is_row.ensures ∙ c.if-is_row.false in
-    let more = row_more x.table.now x.line.now x.k l.r n c.loop-r-test.true not in
-    (search rules, search rules, l.invariant.2 ∙ more)
 
 pub returns : goal.returns
 returns c =
-    let x = c.args in
-    let l = c.loop-r in
+    let t = c.args.table.now in
+    let l = c.args.line.now in
+    let k = c.args.k in
     let n = c.count-n.result / 2 in
-    let e : l.r ≡ n = omega arith in (
-      sym (l.invariant.2 ∙ row-none x.table.now x.line.now x.k l.r n (omega arith) ∙ e),
-      omega (arith, rows_fit x.table.now, l.invariant.1),
-    )
+    let rows : n ≡ fields t / 2 = ap (λ m. m / 2) c.count-n.ensures in
+    let found : c.unwrap_or.result ≡ unwrap_or (find (λ r. is_row t l k r) (range_with_len 0 n)) n =
+    c.unwrap_or.ensures ∙ ap (λ r. unwrap_or r n) c.first_row.ensures in
+    let value : c.unwrap_or.result ≡ row_of t l k = found ∙ ap (λ m. unwrap_or (find (λ r. is_row t l k r) (range_with_len 0 m)) m) rows in
+    record {
+      value = value;
+      upper_bound = omega (arith, value, found-within (λ r. is_row t l k r) (fields t / 2), rows_fit t);
+    }

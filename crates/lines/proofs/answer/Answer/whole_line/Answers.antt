@@ -1,0 +1,12 @@
+-- Number, tab, answer and line feed are put one behind the other; 20 octets, 1, an answer's room and 1 are what there is room for.
+use Rattle.std.proofs.Common.{◌≤◌, length, arith, length-take}
+use Rattle.lines.specs.Answer.{room, said}
+use Rattle.lines.proofs.Written.{whole-fits}
+use Rattle.lines.proofs.answer.Answer.whole_line.Goals as goal
+
+pub returns : goal.returns
+returns c =
+    let a = c.args.self.now in
+    let short : length (said a) ≤ room = simp length-take (omega (arith, a.fits)) in
+    let whole = whole-fits c.args.number (said a) short in
+    cc
