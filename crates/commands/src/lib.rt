@@ -3,6 +3,7 @@
 #![tactic(auto)]
 
 mod kinds;
+mod line;
 mod parts;
 mod reader;
 mod table;
@@ -107,16 +108,18 @@ pub(crate) struct Rule {
     pub under: Allowed,
 }
 
+// A part that is asked for alone.
+#[derive(Clone, Copy)]
+pub(crate) enum Asked {
+    Key,
+    Hash,
+    Tlvs,
+    Inner,
+}
+
 // Where a part stands in a frame.
 #[derive(Clone, Copy)]
 pub struct Span {
     pub from: usize,
     pub count: usize,
-}
-
-// Octets put one behind another, the first `count` of them.
-#[derive(Clone, Copy)]
-struct Line {
-    octets: [u8; 35],
-    count: usize,
 }
