@@ -2,6 +2,10 @@
 // written.
 #![tactic(auto)]
 
+ghost use Rattle.std.specs.Prelude.{◌≡◌, ◌+◌, ◌≤◌, length};
+ghost use Rattle.octets.specs.Parts.{seen};
+ghost use Rattle.commands.specs.Parts.{cut_at, rest_span};
+
 mod kinds;
 mod line;
 mod parts;
@@ -122,4 +126,26 @@ pub(crate) enum Asked {
 pub struct Span {
     pub from: usize,
     pub count: usize,
+}
+
+impl Span {
+    pub(crate) const NOWHERE: Self = Span { from: 0, count: 0 };
+
+    // The octets from `from` to the end of a frame of n octets.
+    #[tactic(auto, unfolding(crate::specs::Parts::rest_span))]
+    pub(crate) fn rest(n: usize, from: usize) -> Self
+        ensures { result ≡ rest_span n from }
+    {
+        Span {
+            from,
+            count: n.saturating_sub(from),
+        }
+    }
+
+    pub(crate) fn of(self, f: &[u8]) -> &[u8]
+        requires { self.from + self.count ≤ length f.now }
+        ensures { seen result ≡ cut_at f.entry self }
+    {
+        &f[self.from..self.from + self.count]
+    }
 }

@@ -6,32 +6,10 @@ ghost use Rattle.settings.specs.Settings.{ours};
 ghost use Rattle.answers.specs.Numbers.{protection_of};
 ghost use Rattle.commands.specs.Reading.{judge, sound};
 ghost use Rattle.commands.specs.Code.{part_span};
-ghost use Rattle.commands.specs.Parts.{cut_at, key_span, hash_span, rest_span, tlvs_span, inner_span, value_span};
+ghost use Rattle.commands.specs.Parts.{cut_at, key_span, hash_span, tlvs_span, inner_span, value_span};
 
 use crate::{Asked, Kind, Rest, Secret, Span, reader, table};
 use tlvs::Walked;
-
-impl Span {
-    const NOWHERE: Self = Span { from: 0, count: 0 };
-
-    // The octets from `from` to the end of a frame of n octets.
-    #[tactic(auto, unfolding(crate::specs::Parts::rest_span))]
-    fn rest(n: usize, from: usize) -> Self
-        ensures { result ≡ rest_span n from }
-    {
-        Span {
-            from,
-            count: n.saturating_sub(from),
-        }
-    }
-
-    fn of(self, f: &[u8]) -> &[u8]
-        requires { self.from + self.count ≤ length f.now }
-        ensures { seen result ≡ cut_at f.entry self }
-    {
-        &f[self.from..self.from + self.count]
-    }
-}
 
 // Where the part asked for stands in a frame of n octets of that kind.
 #[tactic(auto, unfolding(crate::specs::Parts::key_in, crate::specs::Parts::hash_in, crate::specs::Parts::tlvs_in, crate::specs::Parts::inner_in, crate::specs::Parts::key_span, crate::specs::Parts::hash_span, crate::specs::Parts::tlvs_span, crate::specs::Parts::inner_span))]
