@@ -52,22 +52,18 @@ pub(crate) fn kind_of(c: Command) -> Kind
     ensures { result ≡ kind_of c }
 {
     match c {
-        Command::TransportKey(t) => match t {
-            Transported::Network(_, _, _) => Kind::Transport1,
-            Transported::TrustCentre(_, _) => Kind::Transport4,
-            Transported::ApplicationMaster(_, _) => Kind::Transport2,
-            Transported::ApplicationLink(_, _) => Kind::Transport3,
-        },
-        Command::UpdateDevice(_, _, _) => Kind::Update,
+        Command::TransportKey(Transported::Network(..)) => Kind::Transport1,
+        Command::TransportKey(Transported::TrustCentre(..)) => Kind::Transport4,
+        Command::TransportKey(Transported::ApplicationMaster(..)) => Kind::Transport2,
+        Command::TransportKey(Transported::ApplicationLink(..)) => Kind::Transport3,
+        Command::UpdateDevice(..) => Kind::Update,
         Command::RemoveDevice(_) => Kind::Remove,
-        Command::RequestKey(t) => match t {
-            Requested::Application(_) => Kind::Request2,
-            Requested::TrustCentre => Kind::Request4,
-        },
+        Command::RequestKey(Requested::Application(_)) => Kind::Request2,
+        Command::RequestKey(Requested::TrustCentre) => Kind::Request4,
         Command::SwitchKey(_) => Kind::Switch,
         Command::Tunnel(_) => Kind::Tunnel,
-        Command::VerifyKey(_, _) => Kind::Verify,
-        Command::ConfirmKey(_, _, _) => Kind::Confirm,
+        Command::VerifyKey(..) => Kind::Verify,
+        Command::ConfirmKey(..) => Kind::Confirm,
         Command::RelayDownstream => Kind::Down,
         Command::RelayUpstream => Kind::Up,
     }

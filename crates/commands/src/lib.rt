@@ -2,7 +2,12 @@
 // written.
 #![tactic(auto)]
 
+ghost use Rattle.std.specs.Prelude.{◌≡◌, ◌+◌, ◌≤◌, length};
+ghost use Rattle.octets.specs.Parts.{seen};
+ghost use Rattle.commands.specs.Parts.{cut_at, rest_span};
+
 mod kinds;
+mod line;
 mod parts;
 mod reader;
 mod table;
@@ -107,6 +112,15 @@ pub(crate) struct Rule {
     pub under: Allowed,
 }
 
+// A part that is asked for alone.
+#[derive(Clone, Copy)]
+pub(crate) enum Asked {
+    Key,
+    Hash,
+    Tlvs,
+    Inner,
+}
+
 // Where a part stands in a frame.
 #[derive(Clone, Copy)]
 pub struct Span {
@@ -114,9 +128,24 @@ pub struct Span {
     pub count: usize,
 }
 
-// Octets put one behind another, the first `count` of them.
-#[derive(Clone, Copy)]
-struct Line {
-    octets: [u8; 35],
-    count: usize,
+impl Span {
+    pub(crate) const NOWHERE: Self = Span { from: 0, count: 0 };
+
+    // The octets from `from` to the end of a frame of n octets.
+    #[tactic(auto, unfolding(crate::specs::Parts::rest_span))]
+    pub(crate) fn rest(n: usize, from: usize) -> Self
+        ensures { result ≡ rest_span n from }
+    {
+        Span {
+            from,
+            count: n.saturating_sub(from),
+        }
+    }
+
+    pub(crate) fn of(self, f: &[u8]) -> &[u8]
+        requires { self.from + self.count ≤ length f.now }
+        ensures { seen result ≡ cut_at f.entry self }
+    {
+        &f[self.from..self.from + self.count]
+    }
 }

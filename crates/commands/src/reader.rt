@@ -19,11 +19,8 @@ fn judge_kind(f: &[u8], p: Option<u8>, k: Kind) -> Result<Kind, Refusal>
     ensures { told_judged result ≡ judge_kind ours f.now (protection_of p) k }
 {
     let rule = table::rule_of(k);
-    let end = 2 + rule.size;
-    if f.len() < end {
-        return Err(Refusal::Command);
-    }
-    if !table::fits_rest(rule.rest, &f[end..]) {
+    let rest = f.get(2 + rule.size..).ok_or(Refusal::Command)?;
+    if !table::fits_rest(rule.rest, rest) {
         return Err(Refusal::Command);
     }
     if !table::is_allowed(rule.under, p) {

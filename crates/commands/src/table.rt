@@ -68,7 +68,7 @@ pub(crate) fn fits_rest(rest: Rest, s: &[u8]) -> bool
     ensures { result ≡ fits ours rest s.now }
 {
     match rest {
-        Rest::End => s.len() == 0,
+        Rest::End => s.is_empty(),
         Rest::Tlvs => tlvs::fills(s),
         Rest::Relay => tlvs::relays(s),
         Rest::Inner => LEAST_INNER <= s.len() && frames::may_tunnel(s),
@@ -80,7 +80,6 @@ pub(crate) fn secret_size(s: Secret) -> usize
 {
     match s {
         Secret::NoSecret => 0,
-        Secret::Key => 16,
-        Secret::Hash => 16,
+        Secret::Key | Secret::Hash => 16,
     }
 }

@@ -1,8 +1,7 @@
 -- What the router answers is known by what it tells: its contract leaves one answer.
 -- Assumes nothing.
 use Rattle.answers.specs.declared.Refusal.{Refusal}
-use Rattle.std.proofs.Common.{ℕ, Result, Ok, Err}
-use mathlib.Core.Path.{◌≡◌, refl, sym, ap, ◌∙◌}
+use Rattle.std.proofs.Common.{◌≡◌, ℕ, Result, Ok, Err, refl, sym, ap, ◌∙◌}
 use Rattle.answers.proofs.One.{refusal_of, refusal-back}
 use Rattle.router.specs.Routing.{RouteTold, onward, halted, told_routed}
 

@@ -1,5 +1,5 @@
 -- The inner frame is a part of the frame, and a portion one of the inner frame, so that it can be cut out of both.
-use mathlib.Core.Path.{refl}
+use Rattle.std.proofs.Common.{refl}
 use Rattle.settings.specs.Settings.{ours}
 use Rattle.router.proofs.Portions.{none-left, long-enough, its-part}
 use Rattle.router.proofs.routing.portion_of.Goals as goal
