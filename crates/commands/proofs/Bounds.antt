@@ -1,13 +1,14 @@
 -- What the list and the judgement tell of sizes: the parts of a frame that is sound lie inside it.
 -- Assumes nothing.
-use Rattle.std.proofs.Common.{◌≡◌, ℕ, zero, suc, ◌+◌, ◌-◌, ◌≤◌, not, ltb, List, [], ◌∷◌, length, take, drop, sym, refl, ap, ◌∙◌, subst, le_refl, arith, length-drop, length-take, take_all, take-take, drop-drop, ltb-false, Option, Some, None}
+use Rattle.std.proofs.Common.{Result, Ok, Err, ◌≡◌, ℕ, zero, suc, ◌+◌, ◌-◌, ◌≤◌, not, ltb, List, [], ◌∷◌, length, take, drop, sym, refl, ap, ◌∙◌, subst, le_refl, arith, length-drop, length-take, take_all, take-take, drop-drop, ltb-false, Option, Some, None}
 use Rattle.octets.proofs.Choices.{choose}
 use Rattle.octets.specs.Lists.{at}
 use Rattle.answers.specs.Numbers.{ProtectionTold}
 use Rattle.settings.specs.Settings.{Settings, longest_aps}
 use Rattle.frames.specs.Reading.{PlainReading, unread, headed, reading_command}
 use Rattle.tlvs.proofs.Walks.{Inside, walked-inside}
-use Rattle.tlvs.specs.declared.Walked.{Walked}
+use Rattle.tlvs.specs.declared.Value.{Value}
+use Rattle.tlvs.specs.declared.Ill.{Ill}
 use Rattle.tlvs.specs.declared.Wanted.TheVariants.{Tag}
 use Rattle.tlvs.specs.Looking.{walked}
 use Rattle.commands.specs.declared.Kind.{Kind}
@@ -26,7 +27,6 @@ use Rattle.commands.specs.declared.Asked.{Asked}
 use Rattle.octets.specs.Parts.{Part, seen}
 use Rattle.std.specs.Borrow.{Bor}
 use Rattle.commands.specs.declared.Asked.TheVariants as asks
-use Rattle.tlvs.specs.declared.Walked.TheVariants as walks
 
 pub size-most : (k : Kind) → (rule_of k).size ≤ 35
 unfolding rule_of
@@ -168,10 +168,10 @@ module _ (f : List ℕ) where
       most : length (octets_at f q) ≤ q.count
       most = rw (length-take q.count (drop q.from f)) (omega arith)
 
-      go : (x : Walked) → Inside (length (octets_at f q)) x → Holds f (within q.from x)
-      go walks.Ill i = omega arith
-      go walks.Absent i = omega arith
-      go (walks.At j n) i = omega (arith, most, i.0)
+      go : (x : Result (Option Value) Ill) → Inside (length (octets_at f q)) x → Holds f (within q.from x)
+      go (Err e) i = omega arith
+      go (Ok None) i = omega arith
+      go (Ok (Some v)) i = omega (arith, most, i.0)
 
   -- ---- of the part asked for, by the frame's judgement
 
@@ -209,10 +209,10 @@ pub same_span : {p q : Span} → p.from ≡ q.from → p.count ≡ q.count → p
 same_span {p} {q} a b = λ i. record { from = a i; count = b i }
 
 -- what was found in the TLVs r, which stand in f at span q
-module _ (f r : Bor (List ℕ)) (tag : ℕ) (q : Span) (lent : seen r ≡ cut_at f q) (x : Walked) (e : x ≡ walked (Tag tag) r.now) where
-  pub value-at : (y : Walked) → x ≡ y → within q.from y ≡ value_span f.now tag q
+module _ (f r : Bor (List ℕ)) (tag : ℕ) (q : Span) (lent : seen r ≡ cut_at f q) (x : Result (Option Value) Ill) (e : x ≡ walked (Tag tag) r.now) where
+  pub value-at : (y : Result (Option Value) Ill) → x ≡ y → within q.from y ≡ value_span f.now tag q
   unfolding value_span
   value-at y g = ap (within q.from) (sym g ∙ e ∙ ap (λ (p : Part). walked (Tag tag) p.octets) lent)
 
-  pub found-holds : Holds f.now q → (i n : ℕ) → x ≡ walks.At i n → q.from + i + n ≤ length f.now
-  found-holds h i n g = subst (Holds f.now) (sym (value-at (walks.At i n) g)) (value-holds f.now tag q h)
+  pub found-holds : Holds f.now q → (v : Value) → x ≡ Ok (Some v) → q.from + v.start + v.size ≤ length f.now
+  found-holds h v g = subst (Holds f.now) (sym (value-at (Ok (Some v)) g)) (value-holds f.now tag q h)

@@ -1,6 +1,6 @@
 -- Reading what was written gives the command and its parts back, under a protection that the list allows.
 -- Assumes nothing.
-use Rattle.std.proofs.Common.{◌≡◌, ℕ, ◌+◌, ◌^◌, ◌≤◌, Bool, true, false, not, eqb, ltb, List, [], ◌∷◌, ◌++◌, length, take, drop, sym, refl, ap, ◌∙◌, subst, ap₂, zero-add, arith, length-append, length-take, drop-drop, take_at, drop_at, ltb-false, ltb-true, le-ltb, eqb-true, Some}
+use Rattle.std.proofs.Common.{Option, None, Result, Ok, Err, ◌≡◌, ℕ, ◌+◌, ◌^◌, ◌≤◌, Bool, true, false, not, eqb, ltb, List, [], ◌∷◌, ◌++◌, length, take, drop, sym, refl, ap, ◌∙◌, subst, ap₂, zero-add, arith, length-append, length-take, drop-drop, take_at, drop_at, ltb-false, ltb-true, le-ltb, eqb-true, Some}
 use borrow.Author.Tests.{not-false}
 use Rattle.octets.proofs.Choices.{both-parts, choose}
 use Rattle.octets.proofs.Numbers.{least-spelled}
@@ -14,7 +14,8 @@ use Rattle.frames.specs.Reading.{headed, read_header, reading_command}
 use Rattle.board.specs.declared.Board.{Board}
 use Rattle.board.specs.Sending.{Framed, framed}
 use Rattle.tlvs.proofs.Walks.{Inside, walked-inside}
-use Rattle.tlvs.specs.declared.Walked.{Walked}
+use Rattle.tlvs.specs.declared.Value.{Value}
+use Rattle.tlvs.specs.declared.Ill.{Ill}
 use Rattle.tlvs.specs.declared.Wanted.TheVariants.{Tag}
 use Rattle.tlvs.specs.Looking.{walked}
 use Rattle.commands.specs.declared.Allowed.{Allowed}
@@ -40,7 +41,6 @@ use Rattle.commands.proofs.Laid.{own-length, whole-secret, whole-rest}
 use Rattle.commands.specs.declared.Kind.TheVariants as kinds
 use Rattle.commands.specs.declared.Transported.TheVariants as transports
 use Rattle.commands.specs.declared.Requested.TheVariants as requests
-use Rattle.tlvs.specs.declared.Walked.TheVariants as walks
 
 -- ---- a protection that the list allows is one that the reader knows
 
@@ -221,13 +221,13 @@ module _ (f k : List ℕ) where
 -- ---- what follows
 
 -- a part of a part
-value-cut : (f : List ℕ) (q : Span) (x : Walked) → Inside (length (octets_at f q)) x
+value-cut : (f : List ℕ) (q : Span) (x : Result (Option Value) Ill) → Inside (length (octets_at f q)) x
     → octets_at f (within q.from x) ≡ octets_at (octets_at f q) (within 0 x)
-value-cut f q walks.Ill h = refl
-value-cut f q walks.Absent h = refl
-value-cut f q (walks.At i n) h =
-    sym (part-within f q.from q.count i n (omega (arith, h.0, length-take q.count (drop q.from f))))
-    ∙ ap (λ (j : ℕ). take n (drop j (octets_at f q))) (sym (zero-add i))
+value-cut f q (Err e) h = refl
+value-cut f q (Ok None) h = refl
+value-cut f q (Ok (Some v)) h =
+    sym (part-within f q.from q.count v.start v.size (omega (arith, h.0, length-take q.count (drop q.from f))))
+    ∙ ap (λ (j : ℕ). take v.size (drop j (octets_at f q))) (sym (zero-add v.start))
 
 module _ (f : List ℕ) (i : ℕ) (r : List ℕ) (e : drop i f ≡ r) where
   rest-cut : octets_at f (rest_span (length f) i) ≡ r

@@ -9,7 +9,6 @@ ghost use Rattle.commands.specs.Code.{part_span};
 ghost use Rattle.commands.specs.Parts.{cut_at, key_span, hash_span, tlvs_span, inner_span, value_span};
 
 use crate::{Asked, Kind, Rest, Secret, Span, reader, table};
-use tlvs::Walked;
 
 // Where the part asked for stands in a frame of n octets of that kind.
 #[tactic(auto, unfolding(crate::specs::Parts::key_in, crate::specs::Parts::hash_in, crate::specs::Parts::tlvs_in, crate::specs::Parts::inner_in, crate::specs::Parts::key_span, crate::specs::Parts::hash_span, crate::specs::Parts::tlvs_span, crate::specs::Parts::inner_span))]
@@ -43,17 +42,18 @@ fn span_of(frame: &[u8], protection: Option<u8>, asked: Asked) -> Span
 }
 
 // The value of the first TLV of that tag, where the TLVs stand in that span.
+#[tactic(auto, unfolding(crate::specs::Parts::value_span))]
 fn value_span(f: &[u8], tag: u8, tlvs: Span) -> Span
     requires { tlvs.from + tlvs.count ≤ length f.now }
     ensures span { result ≡ value_span f.now tag tlvs }
     ensures within { result.from + result.count ≤ length f.now }
 {
     match tlvs::first_of(tlvs.of(f), tag) {
-        Walked::Ill | Walked::Absent => Span::NOWHERE,
-        Walked::At(i, n) => Span {
-            from: tlvs.from + i,
-            count: n,
+        Ok(Some(value)) => Span {
+            from: tlvs.from + value.start,
+            count: value.size,
         },
+        Ok(None) | Err(_) => Span::NOWHERE,
     }
 }
 
