@@ -8,13 +8,15 @@ use native.Mathlib.Omega.{arith}
 use lib.ListN.{length, take, drop, replicate, length-drop, take-append-drop}
 use lib.Seq.{take_at, take_all, length-take-le}
 use borrow.Author.Tests.{eq-eqb, le-leb}
-use Rattle.std.specs.Prelude.{Option, Some}
+use Rattle.std.specs.Prelude.{Option, Some, Result, Ok, Err}
 use Rattle.octets.specs.Keys.{the_key}
 use Rattle.octets.specs.Least.{spelled}
 use Rattle.octets.specs.Lists.{eq_list, onto}
 use Rattle.octets.proofs.Compared.{same-equal}
 use Rattle.octets.proofs.Tabs.{onto-zeros}
+use Rattle.cipher.specs.Answers.{made, Product, product, hashed}
 use Rattle.cipher.specs.Hash.{hash_of}
+use Rattle.cipher.specs.declared.Fault.{Fault}
 use Rattle.labels.specs.Crc.{crc}
 use Rattle.labels.specs.Codes.{code_length, with_crc, link_key}
 use Rattle.labels.specs.Answers.{reading, coded, no_code}
@@ -36,6 +38,11 @@ pub crc-told : (o b : List ℕ) (n : ℕ) (r t : Bool) → r ≡ eq_list (take (
 crc-told o b n r t e f h =
     let all : take (length o - n) (drop n o) ≡ drop n o = take_all (length o - n) (drop n o) (omega (arith, length-drop n o)) in
     ap₂ eq_list (sym all) (sym f) ∙ sym e ∙ h
+
+-- a hash that was made
+pub hash-made : (r : Result (List ℕ) Fault) (h : List ℕ) → hashed r ≡ product (made 16) h → r ≡ Ok h
+hash-made (Ok k) h e = ap (λ (p : Product). Ok p.octets) e
+hash-made (Err f) h e = cc (ap (λ (p : Product). p.answer) e)
 
 module _ (o : List ℕ) where
   pub judged-few : length o < 2 → judged o ≡ no_code 15

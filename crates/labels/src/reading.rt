@@ -45,6 +45,6 @@ fn judge(o: &[u8]) -> Result<Label, Refusal>
     }
     let mut code = [0u8; 16];
     code[..length].copy_from_slice(&o[..length]);
-    let key = cipher::hash(o).octets;
+    let key = cipher::hash(o).unwrap();
     Ok(Label { length, code, key })
 }

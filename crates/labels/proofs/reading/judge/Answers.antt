@@ -6,16 +6,17 @@ use Prim.Native.Nat.{ℕ, ◌-◌, ◌≤◌}
 use native.Mathlib.Omega.{arith}
 use lib.ListN.{length, take, drop, replicate}
 use lib.Seq.{length-take-le}
+use Rattle.std.proofs.Common.{Ok}
 use Rattle.octets.specs.Least.{spelled}
 use Rattle.octets.specs.Lists.{eq_list}
-use Rattle.cipher.specs.Answers.{Product}
+use Rattle.cipher.specs.Hash.{hash_of}
 use Rattle.cipher.proofs.Lengths.{hashing-made}
 use Rattle.labels.specs.Crc.{crc}
 use Rattle.labels.specs.Codes.{code_length}
 use Rattle.labels.proofs.Lengths.{code-most}
-use Rattle.labels.proofs.Judging.{crc-told, judged-few, judged-length, judged-crc, judged-good}
+use Rattle.labels.proofs.Judging.{crc-told, hash-made, judged-few, judged-length, judged-crc, judged-good}
 use Rattle.labels.proofs.reading.judge.Goals as goal
-use Rattle.labels.proofs.reading.judge.Goals.{Else-not-code_length, After-same}
+use Rattle.labels.proofs.reading.judge.Goals.{Else-not-code_length, After-same, After-hash}
 
 allowed : (c : Else-not-code_length) → code_length (length c.args.o.now - 2) ≡ true
 allowed c = sym c.code_length.ensures ∙ c.if-not-code_length.false
@@ -51,6 +52,14 @@ copy_from_slice-requires c =
     length-take-le n (replicate 16 0) (most (goal.at.copy_from_slice-requires c).Else-not-code_length)
     ∙ sym (length-take-le n c.args.o.now (omega arith))
 
+hash : (c : After-hash) → c.hash.result ≡ Ok (hash_of c.args.o.now)
+hash c =
+    let m = most (goal.at.After-hash c).Else-not-code_length in
+    hash-made c.hash.result _ (c.hash.ensures ∙ hashing-made c.args.o.now (omega arith))
+
+pub unwrap-key-requires : goal.unwrap-key-requires
+unwrap-key-requires c = rw (hash c)
+
 pub returns : goal.returns
 returns c =
     let at = goal.at.returns c in
@@ -58,4 +67,4 @@ returns c =
     let m = most at.Else-not-code_length in
     judged-good o (allowed at.Else-not-code_length) _ _ (compared at.After-same _ c.if-not-same.false)
     (ap (λ (x : List ℕ). x ++ drop (length o - 2) (replicate 16 0)) c.copy_from_slice.ensures.after)
-    (ap (λ (x : Product). x.octets) (c.hash.ensures ∙ hashing-made o (omega arith)))
+    (cc (hash at.After-hash, c.unwrap-key.ensures))
