@@ -1,4 +1,4 @@
--- A string taken 16 octets at a time: the chunk at its front, padded, is its first block, and what stays behind has the others.
+-- A string taken 16 octets at a time: the chunk at its front, padded, is its first block; what stays behind has the others.
 -- Assumes nothing.
 use mathlib.Core.Path.{◌≡◌, refl, sym, ap, ap₂, ◌∙◌}
 use mathlib.Core.Bool.{Bool, true, false}
@@ -35,7 +35,9 @@ module _ (s b t : List ℕ) (e : s ≡ b ++ t) (long : length b ≡ min 16 (leng
 
   pub chunk-first : block_from b 0 ≡ block_from s 0
   unfolding block_from
-  chunk-first = tab-ext 16 (λ j. at b (0 + j)) (λ j. at s (0 + j)) (λ j h. same (0 + j) (ltb (0 + j) (length b)) refl (omega arith))
+  chunk-first =
+      tab-ext 16 (λ j. at b (0 + j)) (λ j. at s (0 + j))
+      (λ j h. same (0 + j) (ltb (0 + j) (length b)) refl (omega arith))
     where
       same : (i : ℕ) (u : Bool) → ltb i (length b) ≡ u → i < 16 → at b i ≡ at s i
       same i true p h = sym (ap (λ (x : List ℕ). at x i) e ∙ get_or-append b t 0 i (ltb-true i (length b) p))

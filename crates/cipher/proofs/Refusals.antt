@@ -1,4 +1,4 @@
--- What `judged` refuses first is what sealing and opening refuse first; what it passes has an allowed tag and few enough octets.
+-- What `judged` refuses, sealing and opening refuse first; what it passes has an allowed tag and few enough octets.
 -- Assumes nothing.
 use mathlib.Core.Path.{◌≡◌, refl}
 use mathlib.Core.Bool.{Bool, true, false}
@@ -21,7 +21,8 @@ module _ (M : ℕ) (a : List ℕ) where
   unfolding judged_by
   passed e = go (tag_length M) (leb (length a) most) refl refl e
     where
-      go : (t u : Bool) → tag_length M ≡ t → leb (length a) most ≡ u → judged_by t u ≡ Ok tt → (tag_length M ≡ true) × (leb (length a) most ≡ true)
+      go : (t u : Bool) → tag_length M ≡ t → leb (length a) most ≡ u → judged_by t u ≡ Ok tt
+          → (tag_length M ≡ true) × (leb (length a) most ≡ true)
       go true true p q r = (p, q)
       go true false p q r = let z : ◌≡◌ {A = ℕ} 0 1 = cc in absurd (omega arith)
       go false u p q r = let z : ◌≡◌ {A = ℕ} 0 1 = cc in absurd (omega arith)
@@ -31,7 +32,8 @@ module _ (M : ℕ) (a : List ℕ) where
     unfolding sealing judged_by
     not-sealed = go (tag_length M) (leb (length a) most) refl refl e
       where
-        go : (t u : Bool) → tag_length M ≡ t → leb (length a) most ≡ u → judged_by t u ≡ Err f → product (refused (number f)) o ≡ sealing M k n a m o
+        go : (t u : Bool) → tag_length M ≡ t → leb (length a) most ≡ u → judged_by t u ≡ Err f
+            → product (refused (number f)) o ≡ sealing M k n a m o
         go true true p q r = let z : ◌≡◌ {A = ℕ} 0 1 = cc in absurd (omega arith)
         go true false p q r = let g : Long ≡ f = cc in rw (p, q, ← g) refl
         go false u p q r = let g : Argument ≡ f = cc in rw (p, ← g) refl
@@ -40,7 +42,8 @@ module _ (M : ℕ) (a : List ℕ) where
     unfolding opening judged_by
     not-opened = go (tag_length M) (leb (length a) most) refl refl e
       where
-        go : (t u : Bool) → tag_length M ≡ t → leb (length a) most ≡ u → judged_by t u ≡ Err f → product (refused (number f)) o ≡ opening M k n a m o
+        go : (t u : Bool) → tag_length M ≡ t → leb (length a) most ≡ u → judged_by t u ≡ Err f
+            → product (refused (number f)) o ≡ opening M k n a m o
         go true true p q r = let z : ◌≡◌ {A = ℕ} 0 1 = cc in absurd (omega arith)
         go true false p q r = let g : Long ≡ f = cc in rw (p, q, ← g) refl
         go false u p q r = let g : Argument ≡ f = cc in rw (p, ← g) refl

@@ -23,6 +23,6 @@ mixed_column t = tab 4 (λ j. mixed (at t j) (below t j 1) (below t j 2) (below 
 unfoldable pub padded_after : ℕ → List ℕ → List ℕ
 padded_after b d = d ++ (0x80 ∷ replicate ((29 - length d % 16) % 16) 0 ++ two_octets (8 * (b + length d)))
 
--- what sealing and opening refuse first: a tag of another length than CCM* has, then more authenticated octets than are taken
+-- what sealing and opening refuse first: a tag that CCM* does not have, then more authenticated octets than are taken
 abbrev pub judged : ℕ → List ℕ → Result (Unit {0}) Fault
 judged M a = if tag_length M then (if nat_le (length a) most then Ok tt else Err Long) else Err Argument

@@ -64,6 +64,7 @@ impl Tables {
     fn sub_bytes(&self, s: [u8; 16]) -> [u8; 16]
         ensures { result ≡ sub_bytes s }
     {
+        // `map` hands the octets on through a buffer of its own, and takes five times as long.
         array::from_fn(|i| self.sub_byte(s[i]))
     }
 
@@ -85,7 +86,7 @@ impl Tables {
         block_of(add_round_key(words_of(self.sub_and_shift(s)), k))
     }
 
-    // SubWord(RotWord(w[i - 1])) + Rcon.
+    // SubWord(RotWord(w[i - 1])) + Rcon, of the last word of a round key.
     fn turned_word(&self, c: u8, k: [u8; 16]) -> u32
         ensures { spelled 4 result ≡ turned_word c k }
     {
@@ -109,6 +110,7 @@ impl Tables {
         let mut keys = [key; 11];
         let mut k = key;
         for (i, c) in self.constants.iter().enumerate() {
+            // No proof is made of a call whose result goes straight into an array that stands.
             let next = self.next_key(*c, k);
             k = next;
             keys[i + 1] = next;

@@ -144,7 +144,8 @@ impl Ccm<'_> {
         requires whole { self.now.tag ≤ length c.now }
         requires fits { length c.now ≤ 128 + self.now.tag }
         requires room { length c.now - self.now.tag ≤ length out.old }
-        ensures { product (counted result) out.new ≡ opened_onto (ccm_open (cipher self.now.key.keys) self.now.tag self.now.nonce a.now c.now) out.old }
+        ensures { product (counted result) out.new
+            ≡ opened_onto (ccm_open (cipher self.now.key.keys) self.now.tag self.now.nonce a.now c.now) out.old }
     {
         let l = c.len() - self.tag;
         let mut plain = [0u8; 128];

@@ -16,7 +16,8 @@ returns-in_err-judged c =
     let x = c.args in
     let e : c.from_residual.result ≡ Err c.in_err-judged.field-0.0 = search rules in
     ap (λ (r : Result ℕ Fault). product (counted r) x.out.now) e
-    ∙ not-opened x.tag x.authenticated.now x.key x.nonce x.sealed.now x.out.now _ (sym c.judged.ensures ∙ c.in_err-judged.was)
+    ∙ not-opened x.tag x.authenticated.now x.key x.nonce x.sealed.now x.out.now _
+    (sym c.judged.ensures ∙ c.in_err-judged.was)
 
 pub overflow_add-tag : goal.overflow_add-tag
 overflow_add-tag c =

@@ -12,5 +12,6 @@ use Rattle.cipher.proofs.aes.mix_columns.Goals as goal
 pub returns : goal.returns
 unfolding mix_columns mixed_column
 returns c =
-    let column = made-at _ (λ i y. spelled 4 y ≡ mixed_column (word c.args.s i)) _ (λ i y q k. search rules) _ _ c.from_fn.ensures.items in
+    let column
+    = made-at _ (λ i y. spelled 4 y ≡ mixed_column (word c.args.s i)) _ (λ i y q k. search rules) _ _ c.from_fn.ensures.items in
     append-four (column 0 (omega arith)) (column 1 (omega arith)) (column 2 (omega arith)) (column 3 (omega arith))

@@ -1,4 +1,4 @@
--- The S-box in decimal has the octets that the definition's table has in hex; the first constant is 1, each other the double before it.
+-- The S-box has the octets that the definition's table has in hex; the first constant is 1, each other twice the one before.
 use mathlib.Core.Path.{refl}
 use Rattle.cipher.specs.Aes.{rcon}
 use Rattle.cipher.specs.Sbox.{sbox_table}

@@ -16,10 +16,11 @@ loop-chunk-preserved c =
     let l = c.loop-chunk in
     let f = absorbed (cipher c.args.self.now.key.keys) in
     let rest = chunks_rest c.next.new.self in
-    let s = c.in-Some.ensures.steps in (
+    let s = c.in-Some.ensures.steps in
+    let long = s.1.1 ∙ ap (λ (n : ℕ). min n (length (chunks_rest l.chunk-iterator))) l.invariant.0 in (
       s.0 ∙ l.invariant.0,
       l.invariant.1
-          ∙ over-chunk _ _ rest s.1.0 (s.1.1 ∙ ap (λ (n : ℕ). min n (length (chunks_rest l.chunk-iterator))) l.invariant.0) f l.y s.1.2
+          ∙ over-chunk _ _ rest s.1.0 long f l.y s.1.2
           ∙ ap (λ (y : List ℕ). over f y (blocks rest)) (sym (c.absorb-next.ensures ∙ ap (f l.y) c.zero_padded.ensures)),
     )
 

@@ -9,17 +9,20 @@ pub returns-then-not-same : goal.returns-then-not-same
 returns-then-not-same c =
     let y = c.args in
     let z = y.self.now in
-    let f = fits_by (cipher z.key.keys) z.tag z.nonce y.a.now y.c.now y.out.now z.short c.requires.whole (replicate 128 0) _ _ _ _ _ _
+    let f = fits_by (cipher z.key.keys) z.tag z.nonce y.a.now y.c.now y.out.now z.short c.requires.whole
+    (replicate 128 0) _ _ _ _ _ _
     c.stream_into.ensures c.mac_of-mac.ensures refl c.zero_padded.ensures
     c.mask-tag.ensures c.same.ensures in
-    opened-false (cipher z.key.keys) z.tag z.nonce y.a.now y.c.now y.out.now z.short c.requires.whole (f ∙ c.if-not-same.true)
+    opened-false (cipher z.key.keys) z.tag z.nonce y.a.now y.c.now y.out.now z.short c.requires.whole
+    (f ∙ c.if-not-same.true)
 
 pub returns : goal.returns
 returns c =
     let y = c.args in
     let z = y.self.now in
-    let f = fits_by (cipher z.key.keys) z.tag z.nonce y.a.now y.c.now y.out.now z.short c.requires.whole (replicate 128 0) _ _ _ _ _ _
+    let f = fits_by (cipher z.key.keys) z.tag z.nonce y.a.now y.c.now y.out.now z.short c.requires.whole
+    (replicate 128 0) _ _ _ _ _ _
     c.stream_into.ensures c.mac_of-mac.ensures refl c.zero_padded.ensures
     c.mask-tag.ensures c.same.ensures in
-    opened-true (cipher z.key.keys) z.tag z.nonce y.a.now y.c.now y.out.now z.short c.requires.whole (replicate 128 0) _ _
-    c.requires.room (f ∙ c.if-not-same.false) c.stream_into.ensures c.paste_at.ensures
+    opened-true (cipher z.key.keys) z.tag z.nonce y.a.now y.c.now y.out.now z.short c.requires.whole
+    (replicate 128 0) _ _ c.requires.room (f ∙ c.if-not-same.false) c.stream_into.ensures c.paste_at.ensures

@@ -1,4 +1,4 @@
--- The loop keeps: the first 16n octets of d, or all, stand enciphered in out, what is behind them stayed, and the rest of d is left.
+-- The loop keeps: the first 16n octets of d, or all, stand enciphered in front of what out had, and the rest of d is left.
 use mathlib.Core.Path.{◌≡◌}
 use Prim.Native.Nat.{◌*◌, min}
 use lib.ListN.{length, drop}
