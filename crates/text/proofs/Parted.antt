@@ -114,7 +114,8 @@ module _ (l w : List ℕ) where
       rw e (passed (suc m) j (λ i b. h i (omega arith)) ∙ more)
 
   pub which-found : (n : ℕ) (r : Option ℕ)
-      → MatchOption r ((k : ℕ) → 0 ≤ k → k < n → IsNot k) (λ i. (0 ≤ i) × (i < n) × IsIt i × ((k : ℕ) → 0 ≤ k → k < i → IsNot k))
+      → MatchOption r ((k : ℕ) → 0 ≤ k → k < n → IsNot k)
+      (λ i. (0 ≤ i) × (i < n) × IsIt i × ((k : ℕ) → 0 ≤ k → k < i → IsNot k))
       → unwrap_or r n ≡ which_of l w 0 n
   unfolding which_of
   which-found n None h = sym (simp add-zero at (passed 0 n (λ i b. h i (omega arith) b)))

@@ -23,7 +23,8 @@ and-both false u = refl
 pub all-digits : (b : ℕ) (l : List ℕ) → list_all (λ c. ltb (digit_of c) b) l ≡ all_digits b l
 unfolding all_digits
 all-digits b [] = refl
-all-digits b (c ∷ l) = and-both (ltb (digit_of c) b) (list_all (λ d. ltb (digit_of d) b) l) ∙ ap (both (ltb (digit_of c) b)) (all-digits b l)
+all-digits b (c ∷ l) =
+    and-both (ltb (digit_of c) b) (list_all (λ d. ltb (digit_of d) b) l) ∙ ap (both (ltb (digit_of c) b)) (all-digits b l)
 
 module _ (b : ℕ) (l : List ℕ) (i : ℕ) where
   pub spelt-more : (n : ℕ) → i < length l → spelt b n (drop i l) ≡ spelt b (n * b + digit_of (get_or l i 0)) (drop (i + 1) l)

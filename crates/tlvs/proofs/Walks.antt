@@ -68,7 +68,8 @@ led-next w t ill x = refl
 led-next w t (filling ts) x = ap (λ (o : Option Value). Ok o) (go x (wants w t.tag t.size))
   where
     go : (x : Option Value) (b : Bool)
-        → option_or x (if b then Some (value_of t) else first_of w ts) ≡ option_or (option_or x (then_some b (value_of t))) (first_of w ts)
+        → option_or x (if b then Some (value_of t) else first_of w ts)
+        ≡ option_or (option_or x (then_some b (value_of t))) (first_of w ts)
     go None true = refl
     go None false = refl
     go (Some v) true = refl
@@ -160,7 +161,8 @@ led-inside : (m : ℕ) (w : Wanted) (t : Tlv) (ts : Tlvs) → (t.start + t.size 
     → Inside m (looked_in w (led t ts))
 led-inside m w t ill h k = omega arith
 led-inside m w t (filling ts) h k =
-    choose (λ (o : Option Value). Inside m (Ok o)) (wants w t.tag t.size) (Some (value_of t)) (first_of w ts) (λ _. h) (λ _. k)
+    choose (λ (o : Option Value). Inside m (Ok o)) (wants w t.tag t.size) (Some (value_of t)) (first_of w ts)
+    (λ _. h) (λ _. k)
 
 from-inside : (w : Wanted) (i n : ℕ) (s : List ℕ) → Inside (i + length s) (looked_in w (tlvs_from i n s))
 unfolding tlvs_from

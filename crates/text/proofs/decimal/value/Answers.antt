@@ -38,4 +38,5 @@ unfolding at_most
 returns c =
     let x = c.args in
     let l = c.loop-c in
-    c.then_some.ensures ∙ chosen (leb l.n x.most) l.n ∙ ap (at_most x.most) (sym (l.invariant ∙ spelt-end 10 x.s.now l.c-index l.n (omega arith)))
+    c.then_some.ensures ∙ chosen (leb l.n x.most) l.n
+    ∙ ap (at_most x.most) (sym (l.invariant ∙ spelt-end 10 x.s.now l.c-index l.n (omega arith)))

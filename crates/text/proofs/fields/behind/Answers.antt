@@ -8,7 +8,8 @@ use Rattle.text.proofs.fields.behind.Goals as goal
 
 -- the next tab, from a place on
 next : (l : List ℕ) (i t : ℕ) → t ≡ length (until (take (length l - i) (drop i l))) → i + t ≡ i + length (until (drop i l))
-next l i t e = ap (λ (n : ℕ). i + n) (e ∙ ap (λ (m : List ℕ). length (until m)) (between_to_end l i (length l) (omega arith)))
+next l i t e =
+    ap (λ (n : ℕ). i + n) (e ∙ ap (λ (m : List ℕ). length (until m)) (between_to_end l i (length l) (omega arith)))
 
 pub returns-then-end-line : goal.returns-then-end-line
 returns-then-end-line c =

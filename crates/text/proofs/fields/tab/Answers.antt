@@ -9,5 +9,6 @@ returns-clause-place c =
     let s = c.args.s.now in
     c.unwrap_or.ensures
     ∙ ap (λ p. unwrap_or p (length s))
-    (position_from_yields_List (λ x. x == 9) _ _ c.position.result c.position.ensures.ran (YieldsList-from_slice s cc) (λ x b q k. search rules))
+    (position_from_yields_List (λ x. x == 9) _ _ c.position.result c.position.ensures.ran (YieldsList-from_slice s cc)
+    (λ x b q k. search rules))
     ∙ first-tab s

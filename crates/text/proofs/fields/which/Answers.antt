@@ -11,5 +11,6 @@ returns c =
     let w = c.args.w.now in
     c.unwrap_or.ensures
     ∙ which-found words w c.count-n.result c.find.result
-    (first_from_Range _ _ _ c.find.result (IsIt words w) (IsNot words w) c.find.ensures.ran (λ k q e. search rules) (λ k q e. search rules))
+    (first_from_Range _ _ _ c.find.result (IsIt words w) (IsNot words w) c.find.ensures.ran
+    (λ k q e. search rules) (λ k q e. search rules))
     ∙ ap (which_of words w 0) c.count-n.ensures

@@ -1,4 +1,4 @@
--- The loop keeps: s spells what is read on from n at the next digit, and n is below 16^i, so that 16 digits stay within 64 bits.
+-- The loop keeps: s spells what is read on from n, and n is below 16^i, so that 16 digits stay within 64 bits.
 use Rattle.std.proofs.Common.{◌≡◌, ◌<◌, ◌^◌, drop}
 use Rattle.text.specs.Digits.{spelt}
 use Rattle.text.proofs.hex.value.Given as goal
