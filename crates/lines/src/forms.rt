@@ -76,7 +76,7 @@ fn protection_value(s: &[u8]) -> Option<u64>
     decimal_value(s, 255)
 }
 
-#[tactic(auto, using(octets::proofs::Choices::tests), unfolding(crate::specs::Kinds::value_of, crate::specs::Kinds::whole_hex))]
+#[tactic(auto, using(octets::proofs::Choices::tests), unfolding(crate::specs::Kinds::value_of))]
 fn hex_value(s: &[u8], least: usize, most: usize) -> Option<u64>
     ensures { result ≡ value_of (kinds.Hex least most) s.now }
 {

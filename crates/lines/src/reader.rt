@@ -29,8 +29,8 @@ impl Reader {
     }
 
     // Whether all of the chunk was read, so that the next one is wanted.
-    pub fn is_spent(self, chunk: &[u8]) -> bool
-        ensures { (b : List ℕ) → result ≡ spent (standing self chunk.now b) }
+    pub fn is_spent(&self, chunk: &[u8]) -> bool
+        ensures { (b : List ℕ) → result ≡ spent (standing self.now chunk.now b) }
     {
         text::front(chunk, self.to).len() <= self.stop.from
     }
@@ -66,8 +66,8 @@ impl Reader {
     }
 
     // Whether the line is to be answered now: it has ended, by its line feed or with the input.
-    pub fn is_due(self) -> bool
-        ensures { (l b : List ℕ) → result ≡ due (standing self l b) }
+    pub fn is_due(&self) -> bool
+        ensures { (l b : List ℕ) → result ≡ due (standing self.now l b) }
     {
         self.stop.ended || !self.live
     }

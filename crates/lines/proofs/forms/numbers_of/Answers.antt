@@ -9,5 +9,6 @@ unfolding worth_at value_at
 returns c =
     let r = c.from_fn.result in
     let made = c.from_fn.ensures.items in
-    let each : (k : ℕ) → k < 8 → get_or r k 0 ≡ worth_at c.args.line.now c.args.form.now k = λ k h. let at = made.at k 0 h in search rules in
-    all 8 0 (worth_at c.args.line.now c.args.form.now) 8 r (record { within = omega arith; long = made.long; upto = each }) (omega arith)
+    let f = worth_at c.args.line.now c.args.form.now in
+    let each : (k : ℕ) → k < 8 → get_or r k 0 ≡ f k = λ k h. let at = made.at k 0 h in search rules in
+    all 8 0 f 8 r (record { within = omega arith; long = made.long; upto = each }) (omega arith)

@@ -7,10 +7,10 @@ pub returns-then-self : goal.returns-then-self
 unfolding due
 returns-then-self c =
     λ l b.
-    let ended : c.args.self.stop.ended ≡ true = c.if-self.true in rw ended
+    let ended : c.args.self.now.stop.ended ≡ true = c.if-self.true in rw ended
 
 pub returns-else-self : goal.returns-else-self
 unfolding due
 returns-else-self c =
     λ l b.
-    let on : c.args.self.stop.ended ≡ false = c.if-self.false in rw on
+    let on : c.args.self.now.stop.ended ≡ false = c.if-self.false in rw on

@@ -9,7 +9,7 @@ pub returns : goal.returns
 unfolding spent
 returns c =
     λ b.
-    let x = c.args in
-    let chunk = take x.self.to x.chunk.now in
+    let x = c.args.self.now in
+    let chunk = take x.to c.args.chunk.now in
     let cut = ap (λ (p : Part). p.octets) c.front.ensures in
-    ap (λ (l : List ℕ). leb (length l) x.self.stop.from) cut ∙ empty_left chunk x.self.stop.from
+    ap (λ (l : List ℕ). leb (length l) x.stop.from) cut ∙ empty_left chunk x.stop.from
