@@ -66,6 +66,7 @@ impl Reader {
     }
 
     // Whether the line is to be answered now: it has ended, by its line feed or with the input.
+    #[tactic(auto, unfolding(crate::specs::Passing::due))]
     pub fn is_due(&self) -> bool
         ensures { (l b : List ℕ) → result ≡ due (standing self.now l b) }
     {
@@ -73,6 +74,7 @@ impl Reader {
     }
 
     // The next line, where one has ended.
+    #[tactic(auto, unfolding(crate::specs::Passing::begun, crate::specs::Passing::number_after))]
     fn begun_line(self) -> Self
         ensures { (l b : List ℕ) → standing result l b ≡ begun (standing self l b) }
     {
