@@ -29,6 +29,7 @@ impl Reader {
     }
 
     // Whether all of the chunk was read, so that the next one is wanted.
+    #[tactic(auto, using(crate::proofs::Turned::empty_left), unfolding(crate::specs::Passing::spent))]
     pub fn is_spent(&self, chunk: &[u8]) -> bool
         ensures { (b : List ℕ) → result ≡ spent (standing self.now chunk.now b) }
     {
@@ -48,6 +49,7 @@ impl Reader {
     }
 
     // The next chunk is the first n octets of that; where these are none the input has ended.
+    #[tactic(auto, using(crate::proofs::Turned::empty_none), unfolding(crate::specs::Passing::filled))]
     pub fn refilled(self, chunk: &[u8], n: usize) -> Self
         ensures { (l b : List ℕ) → standing result chunk.now b ≡ filled (standing self l b) (take n chunk.now) }
     {
