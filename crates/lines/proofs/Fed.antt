@@ -116,11 +116,11 @@ fed-front b p ys a k n i t at few laid =
     let kept = rw front at (fed-kept (length b) (take a b) p t (omega arith)) in
     rw (there, laid, least, take_min m p, ltb-least m p, same) (sym kept)
 
-pub fed-in : (b p ys : List ℕ) (a k n i : ℕ) (t u : Bool) → a ≡ min i (length b) → n ≡ min (length p) (length b - a) → k ≡ n
+pub fed_in : (b p ys : List ℕ) (a k n i : ℕ) (t u : Bool) → a ≡ min i (length b) → n ≡ min (length p) (length b - a) → k ≡ n
     → ys ≡ take n p → or t (ltb n (length p)) ≡ u
     → (holds (take (a + n) (put_mid a k b ys)) u ≡ all_fed (length b) (holds (take i b) t) p)
     × (put_mid a k b ys ≡ onto (take (a + n) (put_mid a k b ys)) b)
-fed-in b p ys a k n i t u at few size laid longer =
+fed_in b p ys a k n i t u at few size laid longer =
     let l = put_mid a k b ys in
     let some : n ≤ length p = omega arith in
     let long : length ys ≡ k = ap length laid ∙ length-take-le n p some ∙ sym size in
@@ -169,15 +169,15 @@ module _ (n : ℕ) (h : Held) (l : List ℕ) (i s : ℕ) (start : s ≡ min i (l
       let place : s + (k + 1) ≡ s + k + 1 = omega arith in
       rw (← there) (drop-drop (k + 1) s l ∙ ap (λ (j : ℕ). drop j l) place)
 
-  pub read-ended : (k : ℕ) → Some k ≡ position (λ c. eqb c 10) rest
+  pub read_ended : (k : ℕ) → Some k ≡ position (λ c. eqb c 10) rest
       → reached (all_fed n h (take k rest)) true (drop (s + k + 1) l) ≡ read_on n h (drop i l)
-  read-ended k e =
+  read_ended k e =
       let (first, inside) = found_at (λ c. eqb c 10) rest k e in
       let read = rw (first, inside, behind k) at (read-found n h rest) in
       sym read ∙ ap (read_on n h) rest-is
 
-  pub read-open : None ≡ position (λ c. eqb c 10) rest → reached (all_fed n h rest) false (drop (length l) l) ≡ read_on n h (drop i l)
-  read-open e =
+  pub read_open : None ≡ position (λ c. eqb c 10) rest → reached (all_fed n h rest) false (drop (length l) l) ≡ read_on n h (drop i l)
+  read_open e =
       let none : position_or_len (λ c. eqb c 10) rest ≡ length rest = found-none (λ c. eqb c 10) rest e in
       let read =
       rw (none, take-length rest, le-ltb (length rest) (length rest) (omega arith), drop_of_length-le rest {i = length rest + 1} (omega arith))

@@ -7,10 +7,10 @@ use Rattle.lines.specs.Reading.{Held, Reached, reached, read_on, stopped}
 use Rattle.lines.specs.declared.reading.Stop.{Stop}
 use Rattle.lines.specs.Passing.{Standing, stands, empty, begun, turned}
 
-pub empty-none : (l : List ℕ) → eqb (length l) 0 ≡ empty l
+pub empty_none : (l : List ℕ) → eqb (length l) 0 ≡ empty l
 unfolding empty
-empty-none [] = refl
-empty-none (c ∷ l) = ne_eqb (suc (length l)) 0 (λ e. omega (arith, e))
+empty_none [] = refl
+empty_none (c ∷ l) = ne_eqb (suc (length l)) 0 (λ e. omega (arith, e))
 
 pub empty_left : (l : List ℕ) (i : ℕ) → leb (length l) i ≡ empty (drop i l)
 unfolding empty

@@ -45,6 +45,7 @@ impl Line {
     // Reads on from a place in the chunk, to the end of the line or of the chunk. The octets of a line
     // that is too long are not kept, but for those that there is room for. Behind the line's octets the
     // buffer stays as it was.
+    #[tactic(auto, using(crate::proofs::Fed::read_ended, crate::proofs::Fed::read_open))]
     pub fn read_on(self, chunk: &[u8], from: usize, buf: &mut [u8]) -> Stop
         ensures buf_after { stopped result chunk.now buf.new ≡ read_on (length buf.old) (held self buf.old) (drop from chunk.now) }
         ensures leaves { buf.new ≡ onto (take result.line.at buf.new) buf.old }
