@@ -14,7 +14,7 @@ unfolding find_row
 returns c =
     let x = c.args in
     let from = YieldsList-from_skip x.from (YieldsList-at c.skip.ensures.source (YieldsList-from_slice _ c.iter.ensures.rest))
-      c.skip.ensures.count in
+    c.skip.ensures.count in
     let there = YieldsList-from_take x.n (YieldsList-at c.take-rows.ensures.source from) c.take-rows.ensures.count in
     let found : c.position.result ≡ position (λ a. eqb a x.address) (take x.n (drop x.from x.addrs.now)) =
     position_from_yields_List (λ a. eqb a x.address) _ _ c.position.result c.position.ensures.ran there
