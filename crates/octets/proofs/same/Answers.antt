@@ -1,4 +1,4 @@
--- The fold goes over the pairs and gathers what is apart in them, whatever it finds; it is 0 in the end just where the lists are the same.
+-- The fold gathers what is apart in the pairs, whatever it finds: 0 in the end just where the lists are the same.
 use Rattle.std.proofs.Common.{ℕ, sym, bit_or, bit_xor, rules, ap, ◌∙◌, eqb}
 use Rattle.std.proofs.lemmas.Iterator.{YieldsList-from_slice, YieldsList-from_zip}
 use Rattle.std.proofs.lemmas.Iterator.Consumers.{fold_from_yields_List}
