@@ -60,7 +60,8 @@ SHAPES = re.compile(
     r"not covered|too (many|few) arguments|is not a (record|function)|"
     r"^`((Inv|μ)-|[\w-]+-spec`)")
 # What follows from another refusal.
-ECHO = re.compile(r"was not admitted \(it has holes or undetermined implicits, or was rejected\)")
+ECHO = re.compile(r"was not admitted \(it has holes or undetermined implicits, or was rejected\)|"
+                  r"^(a|\d+) declarations? that depends? on .* rejected, (was|were) not checked")
 
 
 class Bad(Exception):
@@ -81,23 +82,24 @@ class Edit:
 
 
 # The head of an `impl` block, or of a function or a method; a trait's method that has no body is none.
-HEAD = re.compile(r"^(?:impl(?:<[^{]*?>)? (?:([\w:]+)(?:<[^{]*?>)? for )?(\w+).*{$|"
+HEAD = re.compile(r"^(?:impl(?:<[^{]*?>)? (?:([\w:]+)(?:<([^{]*?)>)? for )?(\w+).*{$|"
                   r"( *)(?:pub(?:\(crate\))? )?(?:final )?fn (\w+))", re.M)
 
 
 def functions_of(crate):
     """Every function of a library, as (file, name, where its body stands), in the order of its files.
 
-    A method is named as in `Reader::turn`, that of a trait as in `ReaderDisplay::fmt`."""
+    A method is named as in `Reader::turn`, that of a trait as in `ReaderDisplay::fmt` or `U8FromRefusal::from`."""
     found = []
     for path in sorted((ROOT / "crates" / crate / "src").rglob("*.rt")):
         text = path.read_text(encoding="utf-8")
         file = path.relative_to(ROOT / "crates" / crate).as_posix()
         owner = ""
         for start in HEAD.finditer(text):
-            trait, kind, indent, name = start.groups()
+            trait, arguments, kind, indent, name = start.groups()
             if kind:
-                owner = kind + (trait or "").rpartition("::")[2]
+                words = [kind, (trait or "").rpartition("::")[2], *re.findall(r"\w+", arguments or "")]
+                owner = "".join(word[:1].upper() + word[1:] for word in words)
                 continue
             opens = re.compile(rf"^{indent}{{$|[^}}\n] {{$|;$", re.M).search(text, start.start())
             if opens and opens[0] == ";":
