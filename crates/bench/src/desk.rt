@@ -1,130 +1,81 @@
 // What stays from line to line.
-use crate::answer::told;
+use answers::{Outcome, Refusal};
 use board::{After, Board};
-use lines::{Answer, first};
+use lines::{Answer, refused};
 
-// The stored lists.
-#[derive(Clone, Copy)]
+// The board, if one was made, its stored lists, and how many octets of output are lent.
+#[derive(Drop)]
+pub struct Bench {
+    pub board: Option<Board>,
+    pub lists: Lists,
+    pub room: usize,
+}
+
+// The two lists, and how many rows of each are lent.
+#[derive(Drop)]
 pub struct Lists {
     pub addrs: [u64; 1024],
     pub floors: [u32; 1024],
-}
-
-// How many octets of output, addresses and floors the requests are lent.
-#[derive(Clone, Copy)]
-pub struct Lent {
-    pub room: usize,
     pub rows: usize,
     pub tops: usize,
 }
 
-// The board, if one was made, its lists and what is lent. All of it goes by value, the lists too: a
-// list lent down to here would be paid for in every branch.
-#[derive(Clone, Copy)]
-pub struct Desk {
-    pub ready: bool,
-    pub board: Board,
-    pub lists: Lists,
-    pub lent: Lent,
-}
+impl Bench {
+    pub(crate) fn new() -> Bench {
+        Bench {
+            board: None,
+            lists: Lists::new(64, 64),
+            room: 116,
+        }
+    }
 
-// A line's answer, and the desk that it leaves.
-#[derive(Clone, Copy)]
-pub struct Reply {
-    pub answer: Answer,
-    pub desk: Desk,
-}
-
-// What a line that is lent the lists answers and leaves.
-#[derive(Clone, Copy)]
-pub struct Held {
-    pub answer: Answer,
-    pub board: Board,
-    pub lists: Lists,
-}
-
-// The same of a line that leaves the lists alone.
-#[derive(Clone, Copy)]
-pub struct Moved {
-    pub answer: Answer,
-    pub board: Board,
-}
-
-// Before the first board there is the one that a refusal leaves, which no line can reach.
-pub(crate) fn fresh_desk() -> Desk {
-    let none = board::make(0, 0);
-    let b = none.board;
-    let lent = Lent {
-        room: 116,
-        rows: 64,
-        tops: 64,
-    };
-    Desk {
-        ready: false,
-        board: b,
-        lists: fresh_lists(),
-        lent,
+    // The board that a request leaves is taken as it is, refused or not: the library says what it is.
+    pub(crate) fn after(&mut self, after: After) -> Answer {
+        self.board = Some(after.board);
+        told(after.answer)
     }
 }
 
-pub(crate) fn fresh_lists() -> Lists {
-    Lists {
-        addrs: [0u64; 1024],
-        floors: [0u32; 1024],
+impl Lists {
+    // Fresh lists, of which so many rows are lent.
+    pub(crate) fn new(rows: usize, tops: usize) -> Lists {
+        Lists {
+            addrs: [0; 1024],
+            floors: [0; 1024],
+            rows,
+            tops,
+        }
+    }
+
+    pub(crate) fn lent(&mut self) -> (&mut [u64], &mut [u32]) {
+        let rows = self.rows;
+        let tops = self.tops;
+        (
+            front_of(&mut self.addrs, rows),
+            front_of(&mut self.floors, tops),
+        )
     }
 }
 
-pub(crate) fn reply_bad(desk: Desk) -> Reply {
-    Reply {
-        answer: first(b"bad"),
-        desk,
+fn front_of<T, const N: usize>(list: &mut [T; N], n: usize) -> &mut [T] {
+    &mut list[..n.min(N)]
+}
+
+pub(crate) fn done() -> Answer {
+    Answer::first(b"ok")
+}
+
+pub(crate) fn told(outcome: Outcome) -> Answer {
+    match outcome {
+        Outcome::Done => done(),
+        Outcome::Refused(why) => refused(why),
     }
 }
 
-pub(crate) fn reply_same(answer: Answer, desk: Desk) -> Reply {
-    Reply { answer, desk }
-}
-
-pub(crate) fn reply_held(held: Held, lent: Lent) -> Reply {
-    let answer = held.answer;
-    let b = held.board;
-    let lists = held.lists;
-    Reply {
-        answer,
-        desk: Desk {
-            ready: true,
-            board: b,
-            lists,
-            lent,
-        },
-    }
-}
-
-// The board that a request leaves is taken as it is, refused or not: the library says what it is.
-pub(crate) fn after(done: After) -> Moved {
-    let outcome = done.answer;
-    let b = done.board;
-    Moved {
-        answer: told(outcome),
-        board: b,
-    }
-}
-
-pub(crate) fn with_lists(moved: Moved, lists: Lists) -> Held {
-    let answer = moved.answer;
-    let b = moved.board;
-    Held {
-        answer,
-        board: b,
-        lists,
-    }
-}
-
-// A line that changes nothing.
-pub(crate) fn shown(answer: Answer, b: Board, lists: Lists) -> Held {
-    Held {
-        answer,
-        board: b,
-        lists,
+// The octets that were made, at the start of the output.
+pub(crate) fn laid(made: Result<usize, Refusal>, out: &[u8]) -> Answer {
+    match made {
+        Ok(n) => done().hex(text::front(out, n)),
+        Err(why) => refused(why),
     }
 }

@@ -1,26 +1,26 @@
 // The hash and the keyed hash, which need no board.
-use crate::answer::done;
-use crate::frame::{Frame, sixteen};
+use crate::desk::done;
+use crate::read::{frame_at, key_at, numbers};
 use answers::Refusal;
 use cipher::Hashed;
-use lines::{Answer, hex, refused};
+use lines::{Answer, refused};
 
-pub(crate) fn hash(f: Frame) -> Answer {
-    let o = f.octets;
-    hashed(cipher::hash(text::front(&o, f.n)))
+pub(crate) fn hash(line: &[u8]) -> Option<Answer> {
+    numbers(line, b".F")?;
+    let input = frame_at(line, 1)?;
+    Some(hashed(cipher::hash(input.as_slice())))
 }
 
-pub(crate) fn keyed_hash(key: Frame, f: Frame) -> Answer {
-    let o = f.octets;
-    hashed(cipher::keyed_hash(sixteen(key), text::front(&o, f.n)))
+pub(crate) fn keyed_hash(line: &[u8]) -> Option<Answer> {
+    numbers(line, b".KF")?;
+    let input = frame_at(line, 2)?;
+    Some(hashed(cipher::keyed_hash(key_at(line, 1), input.as_slice())))
 }
 
 // The only fault that hashing has is an input that is too long.
 fn hashed(h: Hashed) -> Answer {
-    let answer = h.answer;
-    let block = h.octets;
-    match answer {
-        cipher::Answer::Made(_) => hex(done(), &block),
+    match h.answer {
+        cipher::Answer::Made(_) => done().hex(&h.octets),
         cipher::Answer::Refused(_) => refused(Refusal::Long),
     }
 }

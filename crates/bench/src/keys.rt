@@ -1,53 +1,53 @@
-// The requests that change keys, two of which are lent the lists.
-use crate::answer::told;
-use crate::desk::{Held, Lent, Lists, Moved, after, with_lists};
-use crate::frame::{Frame, sixteen};
-use board::Board;
+// The requests that change keys, two of which are lent the lists, and the mark, moved ahead by the two
+// lines of a step.
+use crate::desk::{Bench, done, told};
+use crate::read::{key_at, numbers};
+use lines::Answer;
 
-pub(crate) fn switch(number: u8, b: Board) -> Moved {
-    after(board::switch(b, number))
-}
+impl Bench {
+    pub(crate) fn network(&mut self, line: &[u8]) -> Option<Answer> {
+        let [_, slot, number, ..] = numbers(line, b".BBK")?;
+        let number = u8::try_from(number).ok()?;
+        let board = self.board?;
+        let (addrs, floors) = self.lists.lent();
+        let after = board::install(board, addrs, floors, slot as usize, number, key_at(line, 3));
+        Some(self.after(after))
+    }
 
-pub(crate) fn link(partner: u64, key: Frame, b: Board) -> Moved {
-    after(board::add_link(b, partner, sixteen(key)))
-}
+    pub(crate) fn switch(&mut self, line: &[u8]) -> Option<Answer> {
+        let [_, number, ..] = numbers(line, b".B")?;
+        let after = board::switch(self.board?, u8::try_from(number).ok()?);
+        Some(self.after(after))
+    }
 
-pub(crate) fn unlink(partner: u64, b: Board) -> Moved {
-    after(board::remove_link(b, partner))
-}
+    pub(crate) fn link(&mut self, line: &[u8]) -> Option<Answer> {
+        let [_, partner, ..] = numbers(line, b".AK")?;
+        let after = board::add_link(self.board?, partner, key_at(line, 2));
+        Some(self.after(after))
+    }
 
-pub(crate) fn network(
-    slot: usize,
-    number: u8,
-    key: Frame,
-    b: Board,
-    lists: Lists,
-    lent: Lent,
-) -> Held {
-    let mut addrs = lists.addrs;
-    let mut floors = lists.floors;
-    let rows = lines::addresses_of(lent.rows, &addrs);
-    let tops = lines::floors_of(lent.tops, &floors);
-    let done = board::install(
-        b,
-        &mut addrs[..rows],
-        &mut floors[..tops],
-        slot,
-        number,
-        sixteen(key),
-    );
-    with_lists(after(done), Lists { addrs, floors })
-}
+    pub(crate) fn unlink(&mut self, line: &[u8]) -> Option<Answer> {
+        let [_, partner, ..] = numbers(line, b".A")?;
+        let after = board::remove_link(self.board?, partner);
+        Some(self.after(after))
+    }
 
-pub(crate) fn forget(slot: usize, sender: u64, b: Board, lists: Lists, lent: Lent) -> Held {
-    let mut addrs = lists.addrs;
-    let mut floors = lists.floors;
-    let rows = lines::addresses_of(lent.rows, &addrs);
-    let tops = lines::floors_of(lent.tops, &floors);
-    let outcome = board::forget(&mut addrs[..rows], &mut floors[..tops], slot, sender);
-    Held {
-        answer: told(outcome),
-        board: b,
-        lists: Lists { addrs, floors },
+    pub(crate) fn forget(&mut self, line: &[u8]) -> Option<Answer> {
+        let [_, slot, sender, ..] = numbers(line, b".BA")?;
+        let _board = self.board?;
+        let (addrs, floors) = self.lists.lent();
+        Some(told(board::forget(addrs, floors, slot as usize, sender)))
+    }
+
+    pub(crate) fn mark(&self, line: &[u8]) -> Option<Answer> {
+        numbers(line, b".")?;
+        let mark = board::next_mark(self.board?);
+        Some(done().decimal(mark as u64))
+    }
+
+    pub(crate) fn marked(&mut self, line: &[u8]) -> Option<Answer> {
+        let [_, stored, ..] = numbers(line, b".C")?;
+        let after = board::move_mark(self.board?, u32::try_from(stored).ok()?);
+        Some(self.after(after))
     }
 }

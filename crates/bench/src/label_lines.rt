@@ -1,32 +1,30 @@
 // Labels read and printed, which need no board.
-use crate::answer::done;
-use crate::frame::Frame;
-use labels::{Coded, Printed};
-use lines::{Answer, hex, refused, word};
+use crate::desk::{Bench, done};
+use crate::read::{frame_at, numbers};
+use lines::{Answer, lent_of, refused};
 
-pub(crate) fn label(f: Frame) -> Answer {
-    let o = f.octets;
-    let read = labels::read_label(text::front(&o, f.n));
-    let answer = read.answer;
-    let code = read.code;
-    let key = read.key;
-    match answer {
-        Coded::Code(n) => hex(hex(done(), text::front(&code, n)), &key),
-        Coded::Refused(why) => refused(why),
-    }
+// A label's text stands in its line as it is.
+pub(crate) fn label(line: &[u8]) -> Option<Answer> {
+    numbers(line, b".X")?;
+    Some(match labels::read_label(text::field(line, 1)) {
+        Ok(label) => done()
+            .hex(text::front(&label.code, label.length))
+            .hex(&label.key),
+        Err(why) => refused(why),
+    })
 }
 
-pub(crate) fn print(f: Frame, lent: usize) -> Answer {
-    let o = f.octets;
-    let mut out = [0u8; 256];
-    let room = lines::room_of(lent, &out);
-    let answer = labels::print_label(text::front(&o, f.n), &mut out[..room]);
-    printed(answer, out)
-}
-
-fn printed(answer: Printed, out: [u8; 256]) -> Answer {
-    match answer {
-        Printed::Text(n) => word(done(), text::front(&out, n)),
-        Printed::Refused(why) => refused(why),
+impl Bench {
+    pub(crate) fn print(&self, line: &[u8]) -> Option<Answer> {
+        numbers(line, b".F")?;
+        let code = frame_at(line, 1)?;
+        let mut out = [0; 256];
+        let room = lent_of(self.room, &out);
+        Some(
+            match labels::print_label(code.as_slice(), &mut out[..room]) {
+                Ok(n) => done().word(text::front(&out, n)),
+                Err(why) => refused(why),
+            },
+        )
     }
 }

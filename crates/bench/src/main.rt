@@ -5,28 +5,23 @@
 // it answers is the proved library's; it adds nothing to a verdict.
 #![tactic(auto)]
 
-mod answer;
-mod asked;
 mod command_lines;
 mod desk;
-mod forms;
-mod frame;
 mod hashes;
-mod input;
 mod keys;
 mod label_lines;
 mod making;
-mod mark_lines;
 mod opening;
+mod read;
 mod requests;
+mod results;
 mod routing;
 mod sealing;
 mod show;
 
+use desk::Bench;
 use std::io;
 
 fn main(rt: HostRuntime) -> io::Result<()> {
-    let mut chunk = [0u8; 4096];
-    let mut line = [0u8; 2048];
-    input::run(&mut rt.stdin(), &mut rt.stdout(), &mut chunk, &mut line)
+    lines::run(&mut rt.stdin(), &mut rt.stdout(), &mut Bench::new())
 }

@@ -1,46 +1,35 @@
 // Frames sealed, at both layers.
-use crate::answer::done;
-use crate::desk::Moved;
-use crate::frame::Frame;
-use answers::Sealed;
-use board::{Board, Sent};
-use lines::{Answer, hex, refused};
+use crate::desk::{Bench, laid};
+use crate::read::{frame_at, numbers};
+use crate::results::sealed;
+use lines::{Answer, lent_of};
 
-pub(crate) fn seal(f: Frame, b: Board, lent: usize) -> Moved {
-    let o = f.octets;
-    let mut out = [0u8; 256];
-    let room = lines::room_of(lent, &out);
-    let sent = network::seal_frame(b, text::front(&o, f.n), &mut out[..room]);
-    sealed(sent, out)
-}
-
-pub(crate) fn seal_aps(partner: u64, identifier: u8, f: Frame, b: Board, lent: usize) -> Moved {
-    let o = f.octets;
-    let mut out = [0u8; 256];
-    let room = lines::room_of(lent, &out);
-    let sent = aps::seal_frame(
-        b,
-        text::front(&o, f.n),
-        partner,
-        identifier,
-        &mut out[..room],
-    );
-    sealed(sent, out)
-}
-
-// The frame that sealing laid at the start of the output.
-fn sealed(sent: Sent, out: [u8; 256]) -> Moved {
-    let found = sent.answer;
-    let b = sent.board;
-    Moved {
-        answer: secured(found, out),
-        board: b,
+impl Bench {
+    pub(crate) fn seal(&mut self, line: &[u8]) -> Option<Answer> {
+        numbers(line, b".F")?;
+        let frame = frame_at(line, 1)?;
+        let mut out = [0; 256];
+        let room = lent_of(self.room, &out);
+        let sent = network::seal_frame(self.board?, frame.as_slice(), &mut out[..room]);
+        self.board = Some(sent.board);
+        Some(laid(sealed(sent.answer), &out))
     }
-}
 
-fn secured(found: Sealed, out: [u8; 256]) -> Answer {
-    match found {
-        Sealed::Frame(n) => hex(done(), text::front(&out, n)),
-        Sealed::Refused(why) => refused(why),
+    pub(crate) fn seal_aps(&mut self, line: &[u8]) -> Option<Answer> {
+        let [_, partner, identifier, ..] = numbers(line, b".ABF")?;
+        let identifier = u8::try_from(identifier).ok()?;
+        let frame = frame_at(line, 3)?;
+        let mut out = [0; 256];
+        let room = lent_of(self.room, &out);
+        let board = self.board?;
+        let sent = aps::seal_frame(
+            board,
+            frame.as_slice(),
+            partner,
+            identifier,
+            &mut out[..room],
+        );
+        self.board = Some(sent.board);
+        Some(laid(sealed(sent.answer), &out))
     }
 }

@@ -1,36 +1,25 @@
 // Labels printed, with the whole output, and read, with the octets that a refusal answers.
-use crate::answer::{done, with_output};
-use crate::read::Frame;
-use labels::{Coded, Printed};
-use lines::{Answer, decimal, hex, refused};
+use crate::answer::{counted, done};
+use crate::lent::Output;
+use crate::read::{numbers, octets_at};
+use lines::{Answer, refused};
 
-pub(crate) fn print(size: u64, f: Frame) -> Answer {
-    let o = f.octets;
-    let mut out = [0xeeu8; 256];
-    let room = lines::room_of(size as usize, &out);
-    let answer = labels::print_label(text::front(&o, f.n), &mut out[..room]);
-    with_output(printed(answer), out, room)
+pub(crate) fn print(line: &[u8]) -> Option<Answer> {
+    let [_, room, ..] = numbers(line, b".SG")?;
+    let code = octets_at(line, 2)?;
+    let mut out = Output::new(room)?;
+    let printed = labels::print_label(code.as_slice(), out.lent());
+    Some(counted(printed).hex(out.as_slice()))
 }
 
-fn printed(answer: Printed) -> Answer {
-    match answer {
-        Printed::Text(n) => decimal(done(), n as u64),
-        Printed::Refused(why) => refused(why),
-    }
-}
-
-pub(crate) fn label(f: Frame) -> Answer {
-    let o = f.octets;
-    let read = labels::read_label(text::front(&o, f.n));
-    let answer = read.answer;
-    let code = read.code;
-    let key = read.key;
-    hex(hex(coded(answer), &code), &key)
-}
-
-fn coded(answer: Coded) -> Answer {
-    match answer {
-        Coded::Code(n) => decimal(done(), n as u64),
-        Coded::Refused(why) => refused(why),
-    }
+// A refusal leaves no code and no key, for which zeros are told.
+pub(crate) fn label(line: &[u8]) -> Option<Answer> {
+    numbers(line, b".G")?;
+    Some(match labels::read_label(octets_at(line, 1)?.as_slice()) {
+        Ok(label) => done()
+            .decimal(label.length as u64)
+            .hex(&label.code)
+            .hex(&label.key),
+        Err(why) => refused(why).hex(&[0; 16]).hex(&[0; 16]),
+    })
 }

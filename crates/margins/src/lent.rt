@@ -1,11 +1,65 @@
 // What every line is lent, made anew for it.
 use board::{Active, Board, Link, Slot};
+use std::array;
+
+// An output of octets EE, of which a line is lent the first.
+#[derive(Drop)]
+pub struct Output {
+    octets: [u8; 256],
+    room: usize,
+}
+
+impl Output {
+    // S of docs/MARGINS.md goes only up to the 256 that there are.
+    pub(crate) fn new(room: u64) -> Option<Output> {
+        if room > 256 {
+            return None;
+        }
+        Some(Output {
+            octets: [0xee; 256],
+            room: room as usize,
+        })
+    }
+
+    pub(crate) fn lent(&mut self) -> &mut [u8] {
+        let room = self.room;
+        front_of(&mut self.octets, room)
+    }
+
+    pub(crate) fn as_slice(&self) -> &[u8] {
+        text::front(&self.octets, self.room)
+    }
+}
+
+fn front_of<T, const N: usize>(list: &mut [T; N], n: usize) -> &mut [T] {
+    &mut list[..n.min(N)]
+}
 
 // The two lists of heard senders, of which a line is lent the first rows.
 #[derive(Clone, Copy)]
 pub struct Lists {
     pub addrs: [u64; 1026],
     pub floors: [u32; 1026],
+}
+
+impl Lists {
+    // Row 0 is used, and all rows of slot 1 are, which start at half; so are those behind them.
+    pub(crate) fn made(half: usize) -> Lists {
+        let mut lists = Lists {
+            addrs: array::from_fn(|r| if r < half { 0 } else { 0xc00 + r as u64 }),
+            floors: array::from_fn(|r| if r < half { 0 } else { 1 }),
+        };
+        lists.addrs[0] = 0xb1;
+        lists.floors[0] = 100;
+        lists
+    }
+
+    pub(crate) fn lent(&mut self, rows: usize, tops: usize) -> (&mut [u64], &mut [u32]) {
+        (
+            front_of(&mut self.addrs, rows),
+            front_of(&mut self.floors, tops),
+        )
+    }
 }
 
 // One frame can be sealed, and no more.
@@ -16,19 +70,18 @@ pub(crate) fn made_board() -> Board {
 // The fields are set directly: requests would take 255 commands to bring the APS counter to where
 // it wraps, and none brings the outgoing counter above the mark.
 pub(crate) fn board_at(outgoing: u32, mark: u32) -> Board {
-    let fresh = board::make(2, 0);
-    let b = fresh.board;
-    let mut links = b.links;
+    let fresh = board::make(2, 0).board;
+    let mut links = fresh.links;
     links[0] = link(0xa1, key_from(0x20), 100);
     links[1] = link(0xa2, key_from(0x30), 0);
     Board {
-        own: b.own,
         outgoing,
         mark,
         aps: 255,
         slots: [slot(5, key_from(0x00)), slot(6, key_from(0x10))],
         active: Active::Slot(0),
         links,
+        ..fresh
     }
 }
 
@@ -51,35 +104,5 @@ fn link(partner: u64, key: [u8; 16], floor: u32) -> Link {
 
 // Sixteen octets that count up from the first. Each first has four low bits of zero.
 pub(crate) fn key_from(first: u8) -> [u8; 16] {
-    [
-        first,
-        first | 1,
-        first | 2,
-        first | 3,
-        first | 4,
-        first | 5,
-        first | 6,
-        first | 7,
-        first | 8,
-        first | 9,
-        first | 10,
-        first | 11,
-        first | 12,
-        first | 13,
-        first | 14,
-        first | 15,
-    ]
-}
-
-// Row 0 is used, and all rows of slot 1 are, which start at half; so are those behind them.
-pub(crate) fn made_lists(half: usize) -> Lists {
-    let mut addrs = [0u64; 1026];
-    let mut floors = [0u32; 1026];
-    for r in half..1026 {
-        addrs[r] = 0xc00 + r as u64;
-        floors[r] = 1;
-    }
-    addrs[0] = 0xb1;
-    floors[0] = 100;
-    Lists { addrs, floors }
+    array::from_fn(|i| first | i as u8)
 }

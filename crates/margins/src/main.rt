@@ -7,20 +7,19 @@
 
 mod answer;
 mod hashes;
-mod input;
 mod label_lines;
 mod lent;
 mod opening;
 mod parts;
 mod read;
 mod requests;
+mod results;
 mod sealing;
 mod writing;
 
+use requests::Margins;
 use std::io;
 
 fn main(rt: HostRuntime) -> io::Result<()> {
-    let mut chunk = [0u8; 4096];
-    let mut line = [0u8; 2048];
-    input::run(&mut rt.stdin(), &mut rt.stdout(), &mut chunk, &mut line)
+    lines::run(&mut rt.stdin(), &mut rt.stdout(), &mut Margins)
 }

@@ -1,50 +1,22 @@
 // Parts of a command's frame, each asked for alone.
 use crate::answer::done;
-use crate::read::Frame;
+use crate::read::{guard_of, numbers, octets_at};
 use answers::Guard;
-use lines::{Answer, hex};
-use router::Portion;
+use lines::Answer;
 
-pub(crate) fn key(t: u64, f: Frame) -> Answer {
-    let o = f.octets;
-    hex(done(), commands::key_of(text::front(&o, f.n), guard_of(t)))
+// The part that a routine hands back.
+pub(crate) fn part<F: Fn(&[u8], Guard) -> &[u8]>(line: &[u8], of: F) -> Option<Answer>
+    requires { F.IsAlwaysCallable of }
+{
+    let [_, protection, ..] = numbers(line, b".TG")?;
+    let frame = octets_at(line, 2)?;
+    Some(done().hex(of(frame.as_slice(), guard_of(protection))))
 }
 
-pub(crate) fn digest(t: u64, f: Frame) -> Answer {
-    let o = f.octets;
-    hex(done(), commands::hash_of(text::front(&o, f.n), guard_of(t)))
-}
-
-pub(crate) fn inner(t: u64, f: Frame) -> Answer {
-    let o = f.octets;
-    hex(
-        done(),
-        commands::inner_of(text::front(&o, f.n), guard_of(t)),
-    )
-}
-
-pub(crate) fn tlvs(t: u64, f: Frame) -> Answer {
-    let o = f.octets;
-    hex(done(), commands::tlvs_of(text::front(&o, f.n), guard_of(t)))
-}
-
-pub(crate) fn value(t: u64, tag: u64, f: Frame) -> Answer {
-    let o = f.octets;
-    let found = commands::value_of(text::front(&o, f.n), guard_of(t), (tag % 256) as u8);
-    hex(done(), found)
-}
-
-// One of the four that a Tunnel's inner frame is joined of.
-pub(crate) fn portion(t: u64, f: Frame, p: Portion) -> Answer {
-    let o = f.octets;
-    let found = router::portion_of(text::front(&o, f.n), guard_of(t), p);
-    hex(done(), found)
-}
-
-// 256 stands for none.
-fn guard_of(t: u64) -> Guard {
-    if t > 255 {
-        return Guard::Clear;
-    }
-    Guard::Under((t % 256) as u8)
+pub(crate) fn value(line: &[u8]) -> Option<Answer> {
+    let [_, protection, tag, ..] = numbers(line, b".TBG")?;
+    let frame = octets_at(line, 3)?;
+    let tag = u8::try_from(tag).ok()?;
+    let found = commands::value_of(frame.as_slice(), guard_of(protection), tag);
+    Some(done().hex(found))
 }

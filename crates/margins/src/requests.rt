@@ -1,58 +1,55 @@
-// Which request a line is, and the form of each.
-use crate::answer::bad;
-use crate::read::{Fields, fields_of};
-use crate::writing::write;
-use crate::{hashes, label_lines, opening, parts, sealing};
-use commands::Command;
-use lines::Answer;
+// Which request a line is. Each reads its own fields, and has no answer where the line has not its
+// form.
+use crate::parts::{part, value};
+use crate::{hashes, label_lines, opening, sealing, writing};
+use lines::{Answer, Desk};
 use router::Portion;
 
-// A number beyond the words for a line that has none of them; it has no field at all, a form that no
-// line has.
-pub(crate) fn answer_to(long: bool, line: &[u8]) -> Answer {
-    let w = text::which(
-        b"open\topenaps\tseal\tsealaps\tremove\ttunnel\tdown\thash\tkeyedhash\tkey\tdigest\tinner\ttlvs\t\
-        value\theader\tauxiliary\tpayload\ttag\thall\tprint\tlabel\tsealat\tsealapsat",
-        text::field(line, 0),
-    );
-    let form = text::field(
-        b".SG\t.SAG\t.SG\t.SABG\t.SA\t.SAG\t.SG\t.G\t.G\t.TG\t.TG\t.TG\t.TG\t\
-        .TBG\t.TG\t.TG\t.TG\t.TG\t.SSSG\t.SG\t.G\t.SCCG\t.SCCABG",
-        w,
-    );
-    let x = fields_of(line, form);
-    if long || !x.good {
-        return bad();
+// Nothing stays from line to line.
+#[derive(Drop)]
+pub struct Margins;
+
+impl Desk for Margins {
+    fn answer(&mut self, long: bool, line: &[u8]) -> Answer {
+        let answer = if long { None } else { answer_to(line) };
+        answer.unwrap_or_else(|| Answer::first(b"bad"))
     }
-    answer_well(w, x)
 }
 
-fn answer_well(w: usize, x: Fields) -> Answer {
-    let v = x.v;
-    let f = x.frame;
-    match w {
-        0 => opening::open(v[1], f),
-        1 => opening::open_aps(v[1], v[2], f),
-        2 => sealing::seal(v[1], f),
-        3 => sealing::seal_aps(v[1], v[2], v[3], f),
-        4 => write(v[1], true, Command::RemoveDevice(v[2]), f),
-        5 => write(v[1], false, Command::Tunnel(v[2]), f),
-        6 => write(v[1], true, Command::RelayDownstream, f),
-        7 => hashes::hash(f),
-        8 => hashes::keyed_hash(f),
-        9 => parts::key(v[1], f),
-        10 => parts::digest(v[1], f),
-        11 => parts::inner(v[1], f),
-        12 => parts::tlvs(v[1], f),
-        13 => parts::value(v[1], v[2], f),
-        14 => parts::portion(v[1], f, Portion::Header),
-        15 => parts::portion(v[1], f, Portion::Auxiliary),
-        16 => parts::portion(v[1], f, Portion::Payload),
-        17 => parts::portion(v[1], f, Portion::Tag),
-        18 => opening::hall(v[1], v[2], v[3], f),
-        19 => label_lines::print(v[1], f),
-        20 => label_lines::label(f),
-        21 => sealing::seal_at(v[1], v[2], v[3], f),
-        _ => sealing::seal_aps_at(v, f),
+fn answer_to(line: &[u8]) -> Option<Answer> {
+    match text::field(line, 0) {
+        b"open" => opening::open(line),
+        b"openaps" => opening::open_aps(line),
+        b"hall" => opening::hall(line),
+        b"seal" => sealing::seal(line),
+        b"sealaps" => sealing::seal_aps(line),
+        b"sealat" => sealing::seal_at(line),
+        b"sealapsat" => sealing::seal_aps_at(line),
+        b"remove" => writing::remove(line),
+        b"tunnel" => writing::tunnel(line),
+        b"down" => writing::down(line),
+        b"hash" => hashes::hash(line),
+        b"keyedhash" => hashes::keyed_hash(line),
+        b"print" => label_lines::print(line),
+        b"label" => label_lines::label(line),
+        b"key" => part(line, |f, guard| commands::key_of(f, guard)),
+        b"digest" => part(line, |f, guard| commands::hash_of(f, guard)),
+        b"inner" => part(line, |f, guard| commands::inner_of(f, guard)),
+        b"tlvs" => part(line, |f, guard| commands::tlvs_of(f, guard)),
+        b"value" => value(line),
+        b"header" => part(
+            line,
+            |f, guard| router::portion_of(f, guard, Portion::Header),
+        ),
+        b"auxiliary" => part(
+            line,
+            |f, guard| router::portion_of(f, guard, Portion::Auxiliary),
+        ),
+        b"payload" => part(
+            line,
+            |f, guard| router::portion_of(f, guard, Portion::Payload),
+        ),
+        b"tag" => part(line, |f, guard| router::portion_of(f, guard, Portion::Tag)),
+        _ => None,
     }
 }

@@ -1,24 +1,42 @@
-// A command written, and the APS counter that it leaves.
-use crate::answer::{with_output, written};
-use crate::lent::made_board;
-use crate::read::Frame;
+// A command written, and the APS counter that it leaves. None of the commands here has a key or a hash.
+use crate::answer::counted;
+use crate::lent::{Output, made_board};
+use crate::read::{numbers, octets_at};
+use crate::results::written;
 use commands::Command;
-use lines::{Answer, decimal};
+use lines::Answer;
 
-// None of the commands here has a key or a hash.
-pub(crate) fn write(size: u64, ack: bool, c: Command, rest: Frame) -> Answer {
-    let o = rest.octets;
-    let mut out = [0xeeu8; 256];
-    let room = lines::room_of(size as usize, &out);
-    let wrote = commands::write_command(
-        made_board(),
-        ack,
-        c,
-        b"",
-        text::front(&o, rest.n),
-        &mut out[..room],
-    );
-    let found = wrote.answer;
-    let a = with_output(written(found), out, room);
-    decimal(a, wrote.board.aps as u64)
+pub(crate) fn remove(line: &[u8]) -> Option<Answer> {
+    let [_, room, target, ..] = numbers(line, b".SA")?;
+    write(room, true, Command::RemoveDevice(target), b"")
+}
+
+pub(crate) fn tunnel(line: &[u8]) -> Option<Answer> {
+    let [_, room, destination, ..] = numbers(line, b".SAG")?;
+    write(
+        room,
+        false,
+        Command::Tunnel(destination),
+        octets_at(line, 3)?.as_slice(),
+    )
+}
+
+pub(crate) fn down(line: &[u8]) -> Option<Answer> {
+    let [_, room, ..] = numbers(line, b".SG")?;
+    write(
+        room,
+        true,
+        Command::RelayDownstream,
+        octets_at(line, 2)?.as_slice(),
+    )
+}
+
+fn write(room: u64, acknowledged: bool, command: Command, rest: &[u8]) -> Option<Answer> {
+    let mut out = Output::new(room)?;
+    let wrote = commands::write_command(made_board(), acknowledged, command, b"", rest, out.lent());
+    Some(
+        counted(written(wrote.answer))
+            .hex(out.as_slice())
+            .decimal(wrote.board.aps as u64),
+    )
 }

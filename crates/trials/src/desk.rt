@@ -1,64 +1,71 @@
 // What stays from line to line.
-use crate::answer::{bad, done};
-use board::Board;
-use lines::Answer;
+use answers::Outcome;
+use board::{After, Board};
+use lines::{Answer, refused};
 
-// The board, if one was made, the stored lists, and how many rows of each are lent. All of it goes
-// by value, the lists too: a list lent down to here would be paid for in every branch.
-#[derive(Clone, Copy)]
-pub struct Desk {
-    pub ready: bool,
-    pub board: Board,
+// The board, if one was made, and the stored lists.
+#[derive(Drop)]
+pub struct Trials {
+    pub board: Option<Board>,
+    pub lists: Lists,
+}
+
+// The two lists, and how many rows of each are lent.
+#[derive(Drop)]
+pub struct Lists {
     pub addrs: [u64; 1026],
     pub floors: [u32; 1026],
     pub rows: usize,
     pub tops: usize,
 }
 
-// A line's answer, and the desk that it leaves.
-#[derive(Clone, Copy)]
-pub struct Reply {
-    pub answer: Answer,
-    pub desk: Desk,
-}
+impl Lists {
+    // Fresh lists, of which so many rows are lent.
+    pub(crate) fn new(rows: usize, tops: usize) -> Lists {
+        Lists {
+            addrs: [0; 1026],
+            floors: [0; 1026],
+            rows,
+            tops,
+        }
+    }
 
-// Before the first board there is the one that a refusal leaves, which no line can reach.
-pub(crate) fn fresh_desk() -> Desk {
-    let none = board::make(0, 0);
-    let b = none.board;
-    Desk {
-        ready: false,
-        board: b,
-        addrs: [0u64; 1026],
-        floors: [0u32; 1026],
-        rows: 64,
-        tops: 64,
+    pub(crate) fn lent(&mut self) -> (&mut [u64], &mut [u32]) {
+        let rows = self.rows;
+        let tops = self.tops;
+        (
+            front_of(&mut self.addrs, rows),
+            front_of(&mut self.floors, tops),
+        )
     }
 }
 
-pub(crate) fn with_board(desk: Desk, b: Board) -> Desk {
-    let mut next = desk;
-    next.board = b;
-    next
+fn front_of<T, const N: usize>(list: &mut [T; N], n: usize) -> &mut [T] {
+    &mut list[..n.min(N)]
 }
 
-pub(crate) fn with_lists(desk: Desk, addrs: [u64; 1026], floors: [u32; 1026]) -> Desk {
-    let mut next = desk;
-    next.addrs = addrs;
-    next.floors = floors;
-    next
-}
+impl Trials {
+    pub(crate) fn new() -> Trials {
+        Trials {
+            board: None,
+            lists: Lists::new(64, 64),
+        }
+    }
 
-pub(crate) fn reply_bad(desk: Desk) -> Reply {
-    Reply {
-        answer: bad(),
-        desk,
+    // The board that a request leaves is taken as it is, refused or not: the library says what it is.
+    pub(crate) fn after(&mut self, after: After) -> Answer {
+        self.board = Some(after.board);
+        told(after.answer)
     }
 }
 
-pub(crate) fn reply_done(desk: Desk) -> Reply {
-    Reply {
-        answer: done(),
-        desk,
+pub(crate) fn done() -> Answer {
+    Answer::first(b"ok")
+}
+
+pub(crate) fn told(outcome: Outcome) -> Answer {
+    match outcome {
+        Outcome::Done => done(),
+        Outcome::Refused(why) => refused(why),
     }
 }

@@ -1,30 +1,22 @@
 // Requests on frames, which need no board.
-use crate::answer::{bad, done};
-use crate::read::{Frame, counter, octet};
+use crate::desk::done;
+use crate::read::{frame_at, numbers};
 use frames::{Layer, PlainRead, Read, Secured};
-use lines::{Answer, address, decimal, hex, refused, word};
+use lines::{Answer, refused};
 
-pub(crate) fn frame(f: Frame) -> Answer {
-    let o = f.octets;
-    read(frames::read_frame(Layer::Network, text::front(&o, f.n), 0))
+pub(crate) fn frame(line: &[u8]) -> Option<Answer> {
+    numbers(line, b".F")?;
+    let f = frame_at(line, 1)?;
+    Some(told(frames::read_frame(Layer::Network, f.as_slice(), 0)))
 }
 
-pub(crate) fn aps_frame(sender: u64, f: Frame) -> Answer {
-    let o = f.octets;
-    read(frames::read_frame(Layer::Aps, text::front(&o, f.n), sender))
+pub(crate) fn aps_frame(line: &[u8]) -> Option<Answer> {
+    let [_, sender, ..] = numbers(line, b".AF")?;
+    let f = frame_at(line, 2)?;
+    Some(told(frames::read_frame(Layer::Aps, f.as_slice(), sender)))
 }
 
-pub(crate) fn plain_frame(f: Frame) -> Answer {
-    let o = f.octets;
-    read_plain(frames::read_plain(Layer::Network, text::front(&o, f.n)))
-}
-
-pub(crate) fn plain_aps(f: Frame) -> Answer {
-    let o = f.octets;
-    read_plain(frames::read_plain(Layer::Aps, text::front(&o, f.n)))
-}
-
-fn read(found: Read) -> Answer {
+fn told(found: Read) -> Answer {
     match found {
         Read::Refused(why) => refused(why),
         Read::Plain(h) => plain(h),
@@ -32,64 +24,70 @@ fn read(found: Read) -> Answer {
     }
 }
 
-fn read_plain(found: PlainRead) -> Answer {
-    match found {
-        PlainRead::Refused(why) => refused(why),
-        PlainRead::Header(h) => plain(h),
-    }
-}
-
 fn plain(h: usize) -> Answer {
-    decimal(word(done(), b"plain"), h as u64)
+    done().word(b"plain").decimal(h as u64)
 }
 
 fn secured(s: Secured) -> Answer {
-    let a = word(done(), b"secured");
-    let b = decimal(a, s.header as u64);
-    let c = decimal(b, s.aux as u64);
-    let d = decimal(c, s.control as u64);
-    let e = decimal(d, s.counter as u64);
-    let f = address(e, s.sender);
-    decimal(f, s.sequence as u64)
+    done()
+        .word(b"secured")
+        .decimal(s.header as u64)
+        .decimal(s.aux as u64)
+        .decimal(s.control as u64)
+        .decimal(s.counter as u64)
+        .address(s.sender)
+        .decimal(s.sequence as u64)
 }
 
-pub(crate) fn nonce(sender: u64, count: u64, control: u64) -> Answer {
-    let n = frames::nonce(sender, counter(count), octet(control));
-    hex(done(), &n)
+pub(crate) fn plain_frame(layer: Layer, line: &[u8]) -> Option<Answer> {
+    numbers(line, b".F")?;
+    let f = frame_at(line, 1)?;
+    Some(match frames::read_plain(layer, f.as_slice()) {
+        PlainRead::Refused(why) => refused(why),
+        PlainRead::Header(h) => plain(h),
+    })
 }
 
-pub(crate) fn aux(identifier: u64, count: u64, sender: u64, number: u64) -> Answer {
-    let id = octet(identifier);
-    let mut out = [0xeeu8; 14];
-    frames::lay_auxiliary(&mut out, 0, id, counter(count), sender, octet(number));
+pub(crate) fn nonce(line: &[u8]) -> Option<Answer> {
+    let [_, sender, count, control, ..] = numbers(line, b".ACB")?;
+    let n = frames::nonce(
+        sender,
+        u32::try_from(count).ok()?,
+        u8::try_from(control).ok()?,
+    );
+    Some(done().hex(&n))
+}
+
+pub(crate) fn aux(line: &[u8]) -> Option<Answer> {
+    let [_, identifier, count, sender, number, ..] = numbers(line, b".BCAB")?;
+    let id = u8::try_from(identifier).ok()?;
+    let count = u32::try_from(count).ok()?;
+    let mut out = [0xee; 14];
+    frames::lay_auxiliary(&mut out, 0, id, count, sender, u8::try_from(number).ok()?);
     let n = if id % 4 == 1 { 14 } else { 13 };
-    hex(done(), text::front(&out, n))
+    Some(done().hex(&out[..n]))
 }
 
-pub(crate) fn auth(h: u64, n: u64, f: Frame) -> Answer {
-    let o = f.octets;
-    let mut out = [0xeeu8; 32];
-    frames::lay_authenticated(&mut out, text::front(&o, f.n), h as usize, n as usize);
-    hex(done(), &out)
+pub(crate) fn auth(line: &[u8]) -> Option<Answer> {
+    let [_, h, n, ..] = numbers(line, b".BBF")?;
+    let f = frame_at(line, 3)?;
+    let mut out = [0xee; 32];
+    frames::lay_authenticated(&mut out, f.as_slice(), h as usize, n as usize);
+    Some(done().hex(&out))
 }
 
-// The header of the plain or, raised, of the secured frame, of layer 0 or 1.
-pub(crate) fn laid(raised: bool, layer: u64, h: u64, f: Frame) -> Answer {
-    if layer > 1 {
-        return bad();
-    }
-    let o = f.octets;
-    let out = header(raised, layer == 1, text::front(&o, f.n), h as usize);
-    hex(done(), &out)
-}
-
-fn header(raised: bool, aps: bool, f: &[u8], h: usize) -> [u8; 32] {
-    let layer = if aps { Layer::Aps } else { Layer::Network };
-    let mut out = [0xeeu8; 32];
-    if raised {
-        frames::lay_secured_header(&mut out, layer, f, h);
-    } else {
-        frames::lay_plain_header(&mut out, layer, f, h);
-    }
-    out
+// The header that a routine lays, of the plain or of the secured frame of a layer, 0 or 1.
+pub(crate) fn header<F: Fn(&mut [u8], Layer, &[u8], usize)>(lay: F, line: &[u8]) -> Option<Answer>
+    requires { F.IsAlwaysCallable lay }
+{
+    let [_, layer, h, ..] = numbers(line, b".BBF")?;
+    let layer = match layer {
+        0 => Layer::Network,
+        1 => Layer::Aps,
+        _ => return None,
+    };
+    let f = frame_at(line, 3)?;
+    let mut out = [0xee; 32];
+    lay(&mut out, layer, f.as_slice(), h as usize);
+    Some(done().hex(&out))
 }

@@ -1,35 +1,30 @@
 // Requests on keys, and on the mark, that need no list.
-use crate::answer::told;
-use crate::desk::{Desk, Reply, with_board};
-use crate::read::{counter, octet};
-use board::After;
+use crate::desk::Trials;
+use crate::read::{key_at, numbers};
+use lines::Answer;
 
-pub(crate) fn switch(number: u64, desk: Desk) -> Reply {
-    let b = desk.board;
-    after(board::switch(b, octet(number)), desk)
-}
+impl Trials {
+    pub(crate) fn switch(&mut self, line: &[u8]) -> Option<Answer> {
+        let [_, number, ..] = numbers(line, b".B")?;
+        let after = board::switch(self.board?, u8::try_from(number).ok()?);
+        Some(self.after(after))
+    }
 
-pub(crate) fn link(partner: u64, key: [u8; 16], desk: Desk) -> Reply {
-    let b = desk.board;
-    after(board::add_link(b, partner, key), desk)
-}
+    pub(crate) fn link(&mut self, line: &[u8]) -> Option<Answer> {
+        let [_, partner, ..] = numbers(line, b".AK")?;
+        let after = board::add_link(self.board?, partner, key_at(line, 2));
+        Some(self.after(after))
+    }
 
-pub(crate) fn unlink(partner: u64, desk: Desk) -> Reply {
-    let b = desk.board;
-    after(board::remove_link(b, partner), desk)
-}
+    pub(crate) fn unlink(&mut self, line: &[u8]) -> Option<Answer> {
+        let [_, partner, ..] = numbers(line, b".A")?;
+        let after = board::remove_link(self.board?, partner);
+        Some(self.after(after))
+    }
 
-pub(crate) fn marked(stored: u64, desk: Desk) -> Reply {
-    let b = desk.board;
-    after(board::move_mark(b, counter(stored)), desk)
-}
-
-// The board that a request leaves is taken as it is, refused or not: the library says what it is.
-pub(crate) fn after(done: After, desk: Desk) -> Reply {
-    let outcome = done.answer;
-    let b = done.board;
-    Reply {
-        answer: told(outcome),
-        desk: with_board(desk, b),
+    pub(crate) fn marked(&mut self, line: &[u8]) -> Option<Answer> {
+        let [_, stored, ..] = numbers(line, b".C")?;
+        let after = board::move_mark(self.board?, u32::try_from(stored).ok()?);
+        Some(self.after(after))
     }
 }

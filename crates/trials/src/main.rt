@@ -5,10 +5,8 @@
 // for each answer: it reads what is there and writes an answer as soon as its line has ended.
 #![tactic(auto)]
 
-mod answer;
 mod desk;
 mod headers;
-mod input;
 mod keys;
 mod lists;
 mod raw;
@@ -16,10 +14,9 @@ mod read;
 mod requests;
 mod show;
 
+use desk::Trials;
 use std::io;
 
 fn main(rt: HostRuntime) -> io::Result<()> {
-    let mut chunk = [0u8; 4096];
-    let mut line = [0u8; 2048];
-    input::run(&mut rt.stdin(), &mut rt.stdout(), &mut chunk, &mut line)
+    lines::run(&mut rt.stdin(), &mut rt.stdout(), &mut Trials::new())
 }

@@ -1,35 +1,29 @@
-// Fields of a line, by value. The line's form was judged before, so that all of them are good.
-use text::Octets;
+// Fields of a line, by value.
+use lines::Octets;
 
-// The first n octets.
-#[derive(Clone, Copy)]
-pub struct Frame {
-    pub n: usize,
-    pub octets: [u8; 256],
+// The numbers of a line that has that form, each at its field's place.
+pub(crate) fn numbers(line: &[u8], form: &[u8]) -> Option<[u64; 8]> {
+    if lines::has_form(line, form) {
+        Some(lines::numbers_of(line, form))
+    } else {
+        None
+    }
 }
 
-// A number of kind B is below 256, so that the remainder is the number.
-pub(crate) fn octet(x: u64) -> u8 {
-    (x % 256) as u8
+pub(crate) fn frame_at(line: &[u8], i: usize) -> Option<Octets<256>> {
+    Octets::from_hex(text::field(line, i))
 }
 
-// The same of kind C.
-pub(crate) fn counter(x: u64) -> u32 {
-    (x % 4294967296) as u32
-}
-
+// A key is all of its field, as its line was judged before.
 pub(crate) fn key_at(line: &[u8], i: usize) -> [u8; 16] {
-    let mut octets = [0u8; 16];
-    text::octets_of(text::field(line, i), &mut octets);
-    octets
+    lines::array_of(text::field(line, i))
 }
 
-pub(crate) fn frame_at(line: &[u8], i: usize) -> Frame {
-    let mut octets = [0u8; 256];
-    let read = text::octets_of(text::field(line, i), &mut octets);
-    let n = match read {
-        Octets::Are(n) => n,
-        Octets::Bad => 0,
-    };
-    Frame { n, octets }
+// A number that is 1 or 0, as a slot or an entry is there or not.
+pub(crate) fn flag(x: u64) -> Option<bool> {
+    match x {
+        0 => Some(false),
+        1 => Some(true),
+        _ => None,
+    }
 }

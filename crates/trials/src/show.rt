@@ -1,69 +1,52 @@
 // The tables, told whole: also what a free place holds.
-use crate::answer::{done, flag};
+use crate::desk::{Lists, done};
 use board::{Active, Board, Link, Slot};
-use lines::{Answer, address, decimal, hex, word};
+use lines::Answer;
 
-pub(crate) fn counters(b: Board) -> Answer {
-    let own = address(done(), b.own);
-    let outgoing = decimal(own, b.outgoing as u64);
-    decimal(decimal(outgoing, b.aps as u64), b.mark as u64)
+pub(crate) fn counters(b: &Board) -> Answer {
+    done()
+        .address(b.own)
+        .decimal(b.outgoing as u64)
+        .decimal(b.aps as u64)
+        .decimal(b.mark as u64)
 }
 
-pub(crate) fn next_mark(b: Board) -> Answer {
-    decimal(done(), board::next_mark(b) as u64)
+pub(crate) fn next_mark(b: &Board) -> Answer {
+    done().decimal(board::next_mark(*b) as u64)
 }
 
-pub(crate) fn slots(b: Board) -> Answer {
-    let first = b.slots[0];
-    let second = b.slots[1];
-    let which = b.active;
-    active(slot(slot(done(), first), second), which)
-}
-
-fn slot(a: Answer, s: Slot) -> Answer {
-    let key = s.key;
-    let present = flag(a, s.present);
-    let number = decimal(present, s.seq as u64);
-    hex(number, &key)
-}
-
-fn active(a: Answer, which: Active) -> Answer {
-    match which {
-        Active::Nobody => word(a, b"-"),
-        Active::Slot(i) => decimal(a, i as u64),
+pub(crate) fn slots(b: &Board) -> Answer {
+    let told = b.slots.iter().fold(done(), slot);
+    match b.active {
+        Active::Nobody => told.word(b"-"),
+        Active::Slot(i) => told.decimal(i as u64),
     }
 }
 
-pub(crate) fn links(entries: [Link; 8]) -> Answer {
-    let mut a = done();
-    for i in 0..8 {
-        let l = entries[i];
-        a = link(a, l);
-    }
-    a
+fn slot(a: Answer, s: &Slot) -> Answer {
+    a.decimal(s.present as u64)
+        .decimal(s.seq as u64)
+        .hex(&s.key)
 }
 
-fn link(a: Answer, l: Link) -> Answer {
-    let key = l.key;
-    let present = flag(a, l.present);
-    let partner = address(present, l.partner);
-    let octets = hex(partner, &key);
-    decimal(octets, l.floor as u64)
+pub(crate) fn links(b: &Board) -> Answer {
+    b.links.iter().fold(done(), link)
 }
 
-pub(crate) fn rows(addrs: [u64; 1026], floors: [u32; 1026]) -> Answer {
-    let mut a = done();
-    for r in 0..1026 {
-        a = row(a, r, addrs[r], floors[r]);
-    }
-    a
+fn link(a: Answer, l: &Link) -> Answer {
+    a.decimal(l.present as u64)
+        .address(l.partner)
+        .hex(&l.key)
+        .decimal(l.floor as u64)
 }
 
 // A row that is zero in both lists is not told.
-fn row(a: Answer, r: usize, sender: u64, floor: u32) -> Answer {
-    if sender == 0 && floor == 0 {
-        return a;
+pub(crate) fn rows(lists: &Lists) -> Answer {
+    let mut a = done();
+    for (r, (&sender, &floor)) in lists.addrs.iter().zip(&lists.floors).enumerate() {
+        if sender != 0 || floor != 0 {
+            a = a.decimal(r as u64).address(sender).decimal(floor as u64);
+        }
     }
-    let number = decimal(a, r as u64);
-    decimal(address(number, sender), floor as u64)
+    a
 }

@@ -1,31 +1,20 @@
-// Octets of a line's fields, by value. The line's form was judged before, so that all of them are good.
-use text::Octets;
+// Fields of a line, by value.
+use lines::Octets;
 
-// The first n octets.
-#[derive(Clone, Copy)]
-pub struct Data {
-    pub n: usize,
-    pub octets: [u8; 512],
+// The numbers of a line that has that form, each at its field's place.
+pub(crate) fn numbers(line: &[u8], form: &[u8]) -> Option<[u64; 8]> {
+    if lines::has_form(line, form) {
+        Some(lines::numbers_of(line, form))
+    } else {
+        None
+    }
 }
 
-pub(crate) fn block_at(line: &[u8], i: usize) -> [u8; 16] {
-    let mut octets = [0u8; 16];
-    text::octets_of(text::field(line, i), &mut octets);
-    octets
+pub(crate) fn octets_at<const N: usize>(line: &[u8], i: usize) -> Option<Octets<N>> {
+    Octets::from_hex(text::field(line, i))
 }
 
-pub(crate) fn nonce_at(line: &[u8], i: usize) -> [u8; 13] {
-    let mut octets = [0u8; 13];
-    text::octets_of(text::field(line, i), &mut octets);
-    octets
-}
-
-pub(crate) fn data_at(line: &[u8], i: usize) -> Data {
-    let mut octets = [0u8; 512];
-    let read = text::octets_of(text::field(line, i), &mut octets);
-    let n = match read {
-        Octets::Are(n) => n,
-        Octets::Bad => 0,
-    };
-    Data { n, octets }
+// A field that has just so many octets, as its line was judged before.
+pub(crate) fn array_at<const N: usize>(line: &[u8], i: usize) -> [u8; N] {
+    lines::array_of(text::field(line, i))
 }
