@@ -80,17 +80,32 @@ class Edit:
         return self.name if module == "lib" else module.replace("/", "::") + "::" + self.name
 
 
+# The head of an `impl` block, or of a function or a method; a trait's method that has no body is none.
+HEAD = re.compile(r"^(?:impl(?:<[^{]*?>)? (?:([\w:]+)(?:<[^{]*?>)? for )?(\w+).*{$|"
+                  r"( *)(?:pub(?:\(crate\))? )?(?:final )?fn (\w+))", re.M)
+
+
 def functions_of(crate):
-    """Every function of a library, as (file, name, where its body stands), in the order of its files."""
+    """Every function of a library, as (file, name, where its body stands), in the order of its files.
+
+    A method is named as in `Reader::turn`, that of a trait as in `ReaderDisplay::fmt`."""
     found = []
     for path in sorted((ROOT / "crates" / crate / "src").rglob("*.rt")):
         text = path.read_text(encoding="utf-8")
         file = path.relative_to(ROOT / "crates" / crate).as_posix()
-        for start in re.finditer(r"^(?:pub(?:\(crate\))? )?fn (\w+)", text, re.M):
-            body = re.compile(r"^{\n.*?^}$", re.M | re.S).search(text, start.start())
+        owner = ""
+        for start in HEAD.finditer(text):
+            trait, kind, indent, name = start.groups()
+            if kind:
+                owner = kind + (trait or "").rpartition("::")[2]
+                continue
+            opens = re.compile(rf"^{indent}{{$|[^}}\n] {{$|;$", re.M).search(text, start.start())
+            if opens and opens[0] == ";":
+                continue
+            body = opens and re.compile(rf"{{\n.*?^{indent}}}$", re.M | re.S).search(text, opens.end() - 1)
             if not body:
-                raise Bad(f"crates/{crate}/{file}: no body of `fn {start[1]}` is found: run `rt fmt`")
-            found.append((file, start[1], body.span()))
+                raise Bad(f"crates/{crate}/{file}: no body of `fn {name}` is found: run `rt fmt`")
+            found.append((file, f"{owner}::{name}" if indent else name, body.span()))
     return found
 
 

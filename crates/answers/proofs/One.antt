@@ -1,22 +1,15 @@
 -- A refusal is known by its number, and an outcome by what it tells: a contract that speaks of 01's numbers leaves one answer.
 -- Assumes nothing.
+use Rattle.std.proofs.Common.{Option, Some, None, Result, Ok, Err}
+use Rattle.std.specs.Bool.{⊤}
 use mathlib.Core.Path.{◌≡◌, refl, sym, ap, ◌∙◌}
 use mathlib.Core.List.{List, [], ◌∷◌}
 use Prim.Native.Nat.{ℕ}
 use lib.ListN.{get_or}
 use Rattle.answers.specs.declared.Refusal.{Refusal}
 use Rattle.answers.specs.declared.Refusal.TheVariants.{Room, Long, Short, Form, Security, NoKey, Top, Stale, Forged, Full, Command, Protection, Absent, Argument, Label, Crc, Mark}
-use Rattle.answers.specs.declared.Outcome.{Outcome}
-use Rattle.answers.specs.declared.Outcome.TheVariants.{Done, Refused}
-use Rattle.answers.specs.declared.Guard.{Guard}
-use Rattle.answers.specs.declared.Guard.TheVariants.{Clear, Under}
 use Rattle.answers.specs.declared.Opened.{Opened}
-use Rattle.answers.specs.declared.Sealed.{Sealed}
-use Rattle.answers.specs.declared.Written.{Written}
 use Rattle.answers.specs.Numbers.{number_of, Told, done, refused, told, ProtectionTold, clear, under, protection_of, FrameTold, opened, sealed, written, turned_down, told_opened, told_sealed, told_written}
-use Rattle.answers.specs.declared.Opened.TheVariants as opens
-use Rattle.answers.specs.declared.Sealed.TheVariants as seals
-use Rattle.answers.specs.declared.Written.TheVariants as writes
 
 -- 01's table, read by the number; place 0 has none
 table : List Refusal
@@ -48,68 +41,72 @@ refusal-back Mark = refl
 pub number-one : (r s : Refusal) → number_of r ≡ number_of s → r ≡ s
 number-one r s e = sym (refusal-back r) ∙ ap refusal_of e ∙ refusal-back s
 
-outcome_of : Told → Outcome
-outcome_of done = Done
-outcome_of (refused n) = Refused (refusal_of n)
+outcome_of : Told → Result ⊤ Refusal
+outcome_of done = Ok tt
+outcome_of (refused n) = Err (refusal_of n)
 
-outcome-back : (o : Outcome) → outcome_of (told o) ≡ o
+outcome-back : (o : Result ⊤ Refusal) → outcome_of (told o) ≡ o
 unfolding outcome_of
-outcome-back Done = refl
-outcome-back (Refused r) = ap Refused (refusal-back r)
+outcome-back (Ok tt) = refl
+outcome-back (Err r) = ap Err (refusal-back r)
 
-pub told-one : (o p : Outcome) → told o ≡ told p → o ≡ p
+pub told-one : (o p : Result ⊤ Refusal) → told o ≡ told p → o ≡ p
 told-one o p e = sym (outcome-back o) ∙ ap outcome_of e ∙ outcome-back p
 
-guard_of : ProtectionTold → Guard
-guard_of clear = Clear
-guard_of (under k) = Under k
+guard_of : ProtectionTold → Option ℕ
+guard_of clear = None
+guard_of (under k) = Some k
 
-guard-back : (g : Guard) → guard_of (protection_of g) ≡ g
+guard-back : (g : Option ℕ) → guard_of (protection_of g) ≡ g
 unfolding guard_of
-guard-back Clear = refl
-guard-back (Under k) = refl
+guard-back None = refl
+guard-back (Some k) = refl
 
-pub guard-one : (g h : Guard) → protection_of g ≡ protection_of h → g ≡ h
+pub guard-one : (g h : Option ℕ) → protection_of g ≡ protection_of h → g ≡ h
 guard-one g h e = sym (guard-back g) ∙ ap guard_of e ∙ guard-back h
 
-opened_of : FrameTold → Opened
-opened_of (opened n a p) = opens.Frame n a (guard_of p)
-opened_of (sealed n) = opens.Refused Room
-opened_of (written n) = opens.Refused Room
-opened_of (turned_down n) = opens.Refused (refusal_of n)
+opened_of : FrameTold → Result Opened Refusal
+opened_of (opened n a p) = Ok (record { length = n; sender = a; protection = guard_of p })
+opened_of (sealed n) = Err Room
+opened_of (written n) = Err Room
+opened_of (turned_down n) = Err (refusal_of n)
 
-opened-back : (o : Opened) → opened_of (told_opened o) ≡ o
+opened-back : (o : Result Opened Refusal) → opened_of (told_opened o) ≡ o
 unfolding opened_of
-opened-back (opens.Frame n a g) = ap (opens.Frame n a) (guard-back g)
-opened-back (opens.Refused r) = ap opens.Refused (refusal-back r)
+opened-back (Ok o) =
+    ap (λ (g : Option ℕ). opened-with o g) (guard-back o.protection)
+  where
+    opened-with : Opened → Option ℕ → Result Opened Refusal
+    opened-with o g = Ok (record { length = o.length; sender = o.sender; protection = g })
+opened-back (Err r) = ap Err (refusal-back r)
 
-pub opened_one : (o p : Opened) → told_opened o ≡ told_opened p → o ≡ p
+pub opened_one : (o p : Result Opened Refusal) → told_opened o ≡ told_opened p → o ≡ p
 opened_one o p e = sym (opened-back o) ∙ ap opened_of e ∙ opened-back p
 
-sealed_of : FrameTold → Sealed
-sealed_of (opened n a g) = seals.Refused Room
-sealed_of (sealed n) = seals.Frame n
-sealed_of (written n) = seals.Refused Room
-sealed_of (turned_down n) = seals.Refused (refusal_of n)
+sealed_of : FrameTold → Result ℕ Refusal
+sealed_of (opened n a g) = Err Room
+sealed_of (sealed n) = Ok n
+sealed_of (written n) = Err Room
+sealed_of (turned_down n) = Err (refusal_of n)
 
-sealed-back : (o : Sealed) → sealed_of (told_sealed o) ≡ o
+sealed-back : (o : Result ℕ Refusal) → sealed_of (told_sealed o) ≡ o
 unfolding sealed_of
-sealed-back (seals.Frame n) = refl
-sealed-back (seals.Refused r) = ap seals.Refused (refusal-back r)
+sealed-back (Ok n) = refl
+sealed-back (Err r) = ap Err (refusal-back r)
 
-pub sealed-one : (o p : Sealed) → told_sealed o ≡ told_sealed p → o ≡ p
+pub sealed-one : (o p : Result ℕ Refusal) → told_sealed o ≡ told_sealed p → o ≡ p
 sealed-one o p e = sym (sealed-back o) ∙ ap sealed_of e ∙ sealed-back p
 
-written_of : FrameTold → Written
-written_of (opened n a g) = writes.Refused Room
-written_of (sealed n) = writes.Refused Room
-written_of (written n) = writes.Frame n
-written_of (turned_down n) = writes.Refused (refusal_of n)
+written_of : FrameTold → Result ℕ Refusal
+written_of (opened n a g) = Err Room
+written_of (sealed n) = Err Room
+written_of (written n) = Ok n
+written_of (turned_down n) = Err (refusal_of n)
 
-written_back : (o : Written) → written_of (told_written o) ≡ o
+written_back : (o : Result ℕ Refusal) → written_of (told_written o) ≡ o
 unfolding written_of
-written_back (writes.Frame n) = refl
-written_back (writes.Refused r) = ap writes.Refused (refusal-back r)
+written_back (Ok n) = refl
+written_back (Err r) = ap Err (refusal-back r)
 
-pub written_one : (o p : Written) → told_written o ≡ told_written p → o ≡ p
+pub written_one : (o p : Result ℕ Refusal) → told_written o ≡ told_written p → o ≡ p
 written_one o p e = sym (written_back o) ∙ ap written_of e ∙ written_back p

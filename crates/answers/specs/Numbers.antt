@@ -1,19 +1,10 @@
 -- Document 01's table of refusals, and those of document 02 (RULES 1.5): the number of each; and what an answer tells, in these
 -- numbers.
 -- Assumes nothing.
-use Rattle.std.specs.Prelude.{ℕ}
+use Rattle.std.specs.Prelude.{ℕ, Option, Some, None, Result, Ok, Err, ⊤}
 use Rattle.answers.specs.declared.Refusal.{Refusal}
 use Rattle.answers.specs.declared.Refusal.TheVariants.{Room, Long, Short, Form, Security, NoKey, Top, Stale, Forged, Full, Command, Protection, Absent, Argument, Label, Crc, Mark}
-use Rattle.answers.specs.declared.Outcome.{Outcome}
-use Rattle.answers.specs.declared.Outcome.TheVariants.{Done, Refused}
-use Rattle.answers.specs.declared.Guard.{Guard}
-use Rattle.answers.specs.declared.Guard.TheVariants.{Clear, Under}
 use Rattle.answers.specs.declared.Opened.{Opened}
-use Rattle.answers.specs.declared.Sealed.{Sealed}
-use Rattle.answers.specs.declared.Written.{Written}
-use Rattle.answers.specs.declared.Opened.TheVariants as opens
-use Rattle.answers.specs.declared.Sealed.TheVariants as seals
-use Rattle.answers.specs.declared.Written.TheVariants as writes
 
 abbrev pub number_of : Refusal → ℕ
 number_of Room = 1
@@ -41,18 +32,18 @@ pub data Told : Type 0 where
   done : Told
   refused : ℕ → Told
 
-abbrev pub told : Outcome → Told
-told Done = done
-told (Refused r) = refused (number_of r)
+abbrev pub told : Result ⊤ Refusal → Told
+told (Ok tt) = done
+told (Err r) = refused (number_of r)
 
 -- "the protection found (none or the key identifier)"
 pub data ProtectionTold : Type 0 where
   clear : ProtectionTold
   under : ℕ → ProtectionTold
 
-abbrev pub protection_of : Guard → ProtectionTold
-protection_of Clear = clear
-protection_of (Under k) = under k
+abbrev pub protection_of : Option ℕ → ProtectionTold
+protection_of None = clear
+protection_of (Some k) = under k
 
 -- what opening, sealing and writing tell: length, sender and protection of a frame that opened, the length of one that was
 -- sealed or written, or a refusal's number
@@ -62,14 +53,14 @@ pub data FrameTold : Type 0 where
   written : ℕ → FrameTold
   turned_down : ℕ → FrameTold
 
-abbrev pub told_opened : Opened → FrameTold
-told_opened (opens.Frame n a g) = opened n a (protection_of g)
-told_opened (opens.Refused r) = turned_down (number_of r)
+abbrev pub told_opened : Result Opened Refusal → FrameTold
+told_opened (Ok o) = opened o.length o.sender (protection_of o.protection)
+told_opened (Err r) = turned_down (number_of r)
 
-abbrev pub told_sealed : Sealed → FrameTold
-told_sealed (seals.Frame n) = sealed n
-told_sealed (seals.Refused r) = turned_down (number_of r)
+abbrev pub told_sealed : Result ℕ Refusal → FrameTold
+told_sealed (Ok n) = sealed n
+told_sealed (Err r) = turned_down (number_of r)
 
-abbrev pub told_written : Written → FrameTold
-told_written (writes.Frame n) = written n
-told_written (writes.Refused r) = turned_down (number_of r)
+abbrev pub told_written : Result ℕ Refusal → FrameTold
+told_written (Ok n) = written n
+told_written (Err r) = turned_down (number_of r)

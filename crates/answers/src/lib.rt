@@ -1,11 +1,11 @@
-// The refusals of documents 01 and 02, each with its number there, and the protections.
+// The refusals of documents 01 and 02, each with its number there, and what opening answers.
 #![tactic(auto)]
 
 ghost use Rattle.std.specs.Prelude.{◌≡◌};
 ghost use Rattle.answers.specs.Numbers.{number_of};
 
 // The refusals in the order of their numbers: the fourteen of 01's table, then those that 02 brings.
-#[derive(Clone, Copy)]
+#[derive(Clone, Copy, Debug, PartialEq, Eq)]
 pub enum Refusal {
     Room,
     Long,
@@ -26,62 +26,38 @@ pub enum Refusal {
     Mark,
 }
 
-// What protected a frame: nothing, or a key, named by its identifier.
-#[derive(Clone, Copy)]
-pub enum Guard {
-    Clear,
-    Under(u8),
+// A frame that opened: its length, its sender (0 if unsecured), and what protected it: nothing, or a
+// key, named by its identifier.
+#[derive(Clone, Copy, Debug, PartialEq, Eq)]
+pub struct Opened {
+    pub length: usize,
+    pub sender: u64,
+    pub protection: Option<u8>,
 }
 
-// A request that answers no value: it was done, or refused.
-#[derive(Clone, Copy)]
-pub enum Outcome {
-    Done,
-    Refused(Refusal),
-}
+impl From<Refusal> for u8 {
+    ghost from_gives = { λ refusal number. number ≡ number_of refusal };
 
-// A frame that opened, with its length, its sender (0 if unsecured) and what protected it.
-#[derive(Clone, Copy)]
-pub enum Opened {
-    Frame(usize, u64, Guard),
-    Refused(Refusal),
-}
-
-// A frame that was sealed, with its length.
-#[derive(Clone, Copy)]
-pub enum Sealed {
-    Frame(usize),
-    Refused(Refusal),
-}
-
-// A command frame that was written, with its length.
-#[derive(Clone, Copy)]
-pub enum Written {
-    Frame(usize),
-    Refused(Refusal),
-}
-
-// The refusal's number.
-pub fn number(r: Refusal) -> u8
-    ensures { result ≡ number_of r }
-{
-    match r {
-        Refusal::Room => 1,
-        Refusal::Long => 2,
-        Refusal::Short => 3,
-        Refusal::Form => 4,
-        Refusal::Security => 5,
-        Refusal::NoKey => 6,
-        Refusal::Top => 7,
-        Refusal::Stale => 8,
-        Refusal::Forged => 9,
-        Refusal::Full => 10,
-        Refusal::Command => 11,
-        Refusal::Protection => 12,
-        Refusal::Absent => 13,
-        Refusal::Argument => 14,
-        Refusal::Label => 15,
-        Refusal::Crc => 16,
-        Refusal::Mark => 17,
+    // Its number in the documents' table.
+    fn from(refusal: Refusal) -> u8 {
+        match refusal {
+            Refusal::Room => 1,
+            Refusal::Long => 2,
+            Refusal::Short => 3,
+            Refusal::Form => 4,
+            Refusal::Security => 5,
+            Refusal::NoKey => 6,
+            Refusal::Top => 7,
+            Refusal::Stale => 8,
+            Refusal::Forged => 9,
+            Refusal::Full => 10,
+            Refusal::Command => 11,
+            Refusal::Protection => 12,
+            Refusal::Absent => 13,
+            Refusal::Argument => 14,
+            Refusal::Label => 15,
+            Refusal::Crc => 16,
+            Refusal::Mark => 17,
+        }
     }
 }

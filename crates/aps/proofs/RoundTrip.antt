@@ -2,6 +2,7 @@
 -- has no other cause to refuse, to the same plain frame, with the sender, counter and protection of the seal. The causes are
 -- document 01's checks. So it is over any fair settings.
 -- Assumes nothing.
+use Rattle.std.proofs.Common.{Some}
 use mathlib.Core.Path.{◌≡◌, sym, ap, ap₂, subst, ◌∙◌}
 use mathlib.Core.Bool.{true, false}
 use mathlib.Core.List.{List}
@@ -22,7 +23,6 @@ use Rattle.frames.specs.Security.{identifier_of, wire_control}
 use Rattle.frames.proofs.Controls.{wire-identifier}
 use Rattle.frames.proofs.Found.{plain-to-seal}
 use Rattle.board.specs.declared.Board.{Board}
-use Rattle.board.specs.declared.Place.TheVariants.{At}
 use Rattle.board.specs.State.{link_at}
 use Rattle.board.specs.Requests.{link_of}
 use Rattle.board.specs.Sending.{spent, Framed, framed}
@@ -38,7 +38,7 @@ use Rattle.aps.proofs.Ways.{Sealing, frame_by, frame-length, seal-ways}
 -- is not below the floor (8). That it is not the top (7) the seal tells.
 pub record Opens (link : Key) (n a : ℕ) (c : Board) (o : List ℕ) (i : ℕ) : Type 0 where
   pub room : longest ≤ length o
-  pub found : link_of c.links a ≡ At i
+  pub found : link_of c.links a ≡ Some i
   pub same : the_key (link_at c.links i).key ≡ link
   pub fresh : (link_at c.links i).floor ≤ n
 
@@ -112,7 +112,7 @@ module _ (z : Settings) (b : Board) (f : List ℕ) (a k : ℕ) (o : List ℕ) (m
 
 -- the frame that b sealed for partner a, whose entry is x, opened by c, whatever sender c's caller gives
 pub round_trip : (z : Settings) → Fair z → (b : Board) (f : List ℕ) (a k : ℕ) (o : List ℕ) (m x : ℕ) → Octets f → b.outgoing < 2 ^ 32
-    → b.own < 2 ^ 64 → no_address b.own ≡ false → (seal_aps z b f a k o).answer ≡ sealed m → link_of b.links a ≡ At x
+    → b.own < 2 ^ 64 → no_address b.own ≡ false → (seal_aps z b f a k o).answer ≡ sealed m → link_of b.links a ≡ Some x
     → (c : Board) (given : ℕ) (p : List ℕ) (i : ℕ) → Opens (the_key (link_at b.links x).key) b.outgoing b.own c p i
     → open_aps z c (take m (seal_aps z b f a k o).out) given p
     ≡ framed (opened (length f) b.own (under k)) (with_floor c i (b.outgoing + 1)) (onto f p)

@@ -1,5 +1,8 @@
 -- Sealing under a link key, of what its calls answered.
 -- Assumes nothing.
+use Rattle.std.proofs.Common.{Option, Some, None, refl}
+use Rattle.std.specs.Option.{ok_or}
+use Rattle.answers.specs.declared.Refusal.TheVariants.{Room}
 use mathlib.Core.Path.{◌≡◌, refl, sym, ap, ap₂, ◌∙◌}
 use mathlib.Core.Bool.{true, not}
 use mathlib.Core.List.{List}
@@ -19,13 +22,12 @@ use Rattle.frames.proofs.Found.{plain-to-seal}
 use Rattle.board.specs.declared.Board.{Board}
 use Rattle.board.specs.declared.Sending.{Sending}
 use Rattle.board.specs.Sending.{raised, with_outgoing, spent, framed, sending_of, may_send, send}
+use Rattle.board.specs.Code.{sent}
 use Rattle.board.proofs.Sends.{send-refused, send-done}
-use Rattle.seals.specs.declared.Enclosed.{Enclosed}
-use Rattle.seals.specs.declared.Enclosed.TheVariants.{Octets}
 use Rattle.seals.specs.Sealing.{sent_octets, sealed_frame, sealing, told_enclosed}
 use Rattle.seals.proofs.Again.{Suited}
 use Rattle.seals.proofs.Securing.{Sealable, sealed-length}
-use Rattle.seals.proofs.Tells.{sealed-tells}
+use Rattle.seals.proofs.Tells.{sealed-tells, never-nothing}
 use Rattle.aps.specs.Keys.{key_for}
 use Rattle.aps.specs.Sealing.{named, sealed_under}
 
@@ -55,7 +57,7 @@ module _ (z : Settings) (s : Sending) (key : Key) (k : ℕ) (f : List ℕ) (h : 
   refused-link n m b e = send-refused s b e (sealed_frame z (key_for key k) Aps k b.outgoing b.own 0 f h) o n m
 
   pub sealed-link : k ≤ 3 → Sealable z k f h → longest ≤ length o → may_send s ≡ done
-      → (x : Key) (w : Enclosed) (m : ℕ) (p : List ℕ) → x ≡ key_for key k → w ≡ Octets m
+      → (x : Key) (w : Option ℕ) (m : ℕ) (p : List ℕ) → x ≡ key_for key k → w ≡ Some m
       → product (told_enclosed w) p ≡ sealing z x Aps k s.counter s.own 0 f h o → (b : Board) → sending_of b ≡ s
       → framed (sealed m) (with_outgoing b (raised b.outgoing)) p ≡ sealed_under z b f o h k key
   unfolding sealed_under spent
@@ -66,6 +68,16 @@ module _ (z : Settings) (s : Sending) (key : Key) (k : ℕ) (f : List ℕ) (h : 
       ap₂ (λ (y : ℕ) (q : List ℕ). framed (sealed y) (spent b) q) (t.0 ∙ sym n) t.1
       ∙ send-done s b eb (sealed_frame z x Aps k b.outgoing b.own 0 f h) o may
       ∙ ap (λ (y : Key). send b (sealed_frame z y Aps k b.outgoing b.own 0 f h) o) ex
+
+  -- what `seal` answers, and is told by
+  pub sent-link : k ≤ 3 → Sealable z k f h → longest ≤ length o → may_send s ≡ done
+      → (x : Key) (w : Option ℕ) (p : List ℕ) → x ≡ key_for key k
+      → product (told_enclosed w) p ≡ sealing z x Aps k s.counter s.own 0 f h o → (b : Board) → sending_of b ≡ s
+      → sent b (ok_or w Room) p
+      ≡ sealed_under z b f o h k key
+  sent-link low fits room may x (Some m) p ex e b eb = sealed-link low fits room may x (Some m) m p ex refl e b eb
+  sent-link low fits room may x None p ex e b eb =
+      never-nothing z x Aps k s.counter s.own 0 f h o low fits room None p refl e
 
 -- a plain frame has its header, and more than the control field in it
 pub plain-bounds : (f : List ℕ) (h : ℕ) → reading_plain Aps f ≡ headed h → (2 ≤ h) × (h ≤ length f)

@@ -1,5 +1,6 @@
 -- The ways in which opening and sealing an APS frame end, each once: what holds of every way out holds of the request.
 -- Assumes nothing.
+use Rattle.std.proofs.Common.{Option, Some, None}
 use mathlib.Core.Path.{◌≡◌, refl}
 use mathlib.Core.Bool.{true}
 use mathlib.Core.List.{List}
@@ -19,8 +20,6 @@ use Rattle.frames.specs.declared.Secured.{Secured}
 use Rattle.frames.specs.Security.{identifier_of}
 use Rattle.frames.specs.Reading.{Reading, refused, plain, secured, reading, PlainReading, unread, headed, reading_plain}
 use Rattle.board.specs.declared.Board.{Board}
-use Rattle.board.specs.declared.Place.{Place}
-use Rattle.board.specs.declared.Place.TheVariants.{At, Absent}
 use Rattle.board.specs.State.{link_at, pairs}
 use Rattle.board.specs.Requests.{link_of}
 use Rattle.board.specs.Sending.{spent, Framed, framed}
@@ -38,7 +37,7 @@ use Rattle.aps.proofs.Sends.{sent-named, plain-bounds}
 -- a secured frame that passes every check, under entry i: read; 6; 7; 8; 9
 pub record Passed (z : Settings) (b : Board) (f : List ℕ) (given : ℕ) (s : Secured) (i : ℕ) : Type 0 where
   pub read : reading z Aps f given ≡ secured s
-  pub found : link_of b.links s.sender ≡ At i
+  pub found : link_of b.links s.sender ≡ Some i
   pub below : s.counter ≡ top → ⊥
   pub least : (link_at b.links i).floor ≤ s.counter
   pub message : List ℕ
@@ -57,16 +56,16 @@ module _ (z : Settings) (b : Board) (f : List ℕ) (given : ℕ) (o : List ℕ) 
       choose P (ltb longest_aps (length f)) _ _ (λ _. down 2) λ _.
       read (reading z Aps f given) refl
     where
-      admit : (s : Secured) (i : ℕ) → reading z Aps f given ≡ secured s → link_of b.links s.sender ≡ At i
+      admit : (s : Secured) (i : ℕ) → reading z Aps f given ≡ secured s → link_of b.links s.sender ≡ Some i
           → (s.counter ≡ top → ⊥) → (link_at b.links i).floor ≤ s.counter
           → (w : Verdict) → message_of z (key_named (link_at b.links i) s) f s ≡ w → P (admitted b f s o i w)
       admit s i e q t h invalid d = down 9
       admit s i e q t h (valid m) d = passed s i (record { read = e; found = q; below = t; least = h; message = m; fits = d })
 
-      keyed : (s : Secured) → reading z Aps f given ≡ secured s → (p : Place) → link_of b.links s.sender ≡ p
+      keyed : (s : Secured) → reading z Aps f given ≡ secured s → (p : Option ℕ) → link_of b.links s.sender ≡ p
           → P (opened_keyed z b f s o p)
-      keyed s e Absent q = down 6
-      keyed s e (At i) q =
+      keyed s e None q = down 6
+      keyed s e (Some i) q =
           choose P (eqb s.counter top) _ _ (λ _. down 7) λ t.
           choose P (ltb s.counter (link_at b.links i).floor) _ _ (λ _. down 8) λ h.
           admit s i e q (eqb-false _ _ t) (ltb-false _ _ h) (message_of z (key_named (link_at b.links i) s) f s) refl
@@ -85,7 +84,7 @@ pub record Sealing (z : Settings) (b : Board) (f : List ℕ) (a k : ℕ) : Type 
   pub unsecured : reading_plain Aps f ≡ headed header
   pub identified : named k ≡ true
   pub entry : ℕ
-  pub partner : link_of b.links a ≡ At entry
+  pub partner : link_of b.links a ≡ Some entry
   pub paired : pairs (link_at b.links entry) a ≡ true
   pub below : b.outgoing ≡ top → ⊥
   pub marked : b.outgoing < b.mark
@@ -107,7 +106,7 @@ module _ {z : Settings} {b : Board} {f : List ℕ} {a k : ℕ} where
 
 module _ (z : Settings) (b : Board) (f : List ℕ) (a k : ℕ) (o : List ℕ) where
   -- the entry that was found is present and the partner's
-  entry-pairs : (i : ℕ) → link_of b.links a ≡ At i → pairs (link_at b.links i) a ≡ true
+  entry-pairs : (i : ℕ) → link_of b.links a ≡ Some i → pairs (link_at b.links i) a ≡ true
   unfolding link_of
   entry-pairs i e = (first_found (λ x. pairs (link_at b.links x) a) 8 0 i e).passes
 
@@ -120,10 +119,10 @@ module _ (z : Settings) (b : Board) (f : List ℕ) (a k : ℕ) (o : List ℕ) wh
       choose P (ltb (longest_aps_plain z) (length f)) _ _ (λ _. down 2) λ q.
       read (ltb-false (longest_aps_plain z) (length f) q) (reading_plain Aps f) refl
     where
-      for : (h : ℕ) → reading_plain Aps f ≡ headed h → length f ≤ longest_aps_plain z → named k ≡ true → (x : Place)
+      for : (h : ℕ) → reading_plain Aps f ≡ headed h → length f ≤ longest_aps_plain z → named k ≡ true → (x : Option ℕ)
           → link_of b.links a ≡ x → P (sealed_for z b f o h k x)
-      for h e d y Absent l = down 6
-      for h e d y (At i) l =
+      for h e d y None l = down 6
+      for h e d y (Some i) l =
           by-sending P b _ o down λ t u.
           made
           (record {

@@ -1,7 +1,7 @@
 -- Document 01, "Opening and sealing" (RULES 7.3): opening an APS frame. "The sender's link entry is used." "One link entry has one
 -- floor for its three keys." "A refusal returns its number and nothing else; state, lists and output stay."
 -- Assumes nothing.
-use Rattle.std.specs.Prelude.{Bool, false, List, ℕ, ◌+◌, length, ◌==◌, nat_lt}
+use Rattle.std.specs.Prelude.{Bool, false, List, ℕ, ◌+◌, length, ◌==◌, nat_lt, Option, Some, None}
 use Rattle.settings.specs.Settings.{Settings, longest, longest_aps, top}
 use Rattle.std.specs.Prelude.{if◌then◌else◌}
 use Rattle.octets.specs.Keys.{Key, the_key}
@@ -14,8 +14,6 @@ use Rattle.frames.specs.Security.{identifier_of}
 use Rattle.frames.specs.Reading.{Reading, refused, plain, secured, reading}
 use Rattle.board.specs.declared.Board.{Board}
 use Rattle.board.specs.declared.Link.{Link}
-use Rattle.board.specs.declared.Place.{Place}
-use Rattle.board.specs.declared.Place.TheVariants.{At, Absent}
 use Rattle.board.specs.State.{link_at, with_link}
 use Rattle.board.specs.Requests.{link_of}
 use Rattle.board.specs.Sending.{Framed, framed}
@@ -51,9 +49,9 @@ opened_under z b f s o i =
     else admitted b f s o i (message_of z (key_named (link_at b.links i) s) f s))
 
 -- 6
-unfoldable pub opened_keyed : Settings → Board → List ℕ → Secured → List ℕ → Place → Framed
-opened_keyed z b f s o (At i) = opened_under z b f s o i
-opened_keyed z b f s o Absent = framed (turned_down 6) b o
+unfoldable pub opened_keyed : Settings → Board → List ℕ → Secured → List ℕ → Option ℕ → Framed
+opened_keyed z b f s o (Some i) = opened_under z b f s o i
+opened_keyed z b f s o None = framed (turned_down 6) b o
 
 -- ---- 1, 2, reading, and what follows
 
@@ -70,9 +68,9 @@ open_aps z b f given o =
 
 -- ---- the look: whether the tag of a frame that is not too long (2) fits the key that is found, whatever the counter
 
-unfoldable pub looked_keyed : Settings → List Link → List ℕ → Secured → Place → Bool
-looked_keyed z ls f s (At i) = looking z (key_named (link_at ls i) s) f s
-looked_keyed z ls f s Absent = false
+unfoldable pub looked_keyed : Settings → List Link → List ℕ → Secured → Option ℕ → Bool
+looked_keyed z ls f s (Some i) = looking z (key_named (link_at ls i) s) f s
+looked_keyed z ls f s None = false
 
 unfoldable pub looked_read : Settings → List Link → List ℕ → Reading → Bool
 looked_read z ls f (refused n) = false

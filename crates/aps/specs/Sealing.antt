@@ -2,7 +2,7 @@
 -- partner's entry and identifier 0, 2 or 3 named by the caller (else 14)." "Sealing always sends the sender, 13 octets." "Sealing: 1,
 -- 2, 3, 4, 3, 14, 6, 7", and document 02 (vi): 17, "judged after 7".
 -- Assumes nothing.
-use Rattle.std.specs.Prelude.{Bool, not, List, ℕ, length, ◌==◌, nat_lt, nat_le}
+use Rattle.std.specs.Prelude.{Bool, not, List, ℕ, length, ◌==◌, nat_lt, nat_le, Option, Some, None}
 use Rattle.settings.specs.Settings.{Settings, longest, longest_aps_plain}
 use Rattle.std.specs.Prelude.{if◌then◌else◌}
 use Rattle.octets.specs.Choice.{both}
@@ -11,8 +11,6 @@ use Rattle.answers.specs.Numbers.{turned_down}
 use Rattle.frames.specs.declared.Layer.TheVariants.{Aps}
 use Rattle.frames.specs.Reading.{PlainReading, unread, headed, reading_plain}
 use Rattle.board.specs.declared.Board.{Board}
-use Rattle.board.specs.declared.Place.{Place}
-use Rattle.board.specs.declared.Place.TheVariants.{At, Absent}
 use Rattle.board.specs.State.{link_at}
 use Rattle.board.specs.Requests.{link_of}
 use Rattle.board.specs.Sending.{Framed, framed, send}
@@ -28,9 +26,9 @@ unfoldable pub sealed_under : Settings → Board → List ℕ → List ℕ → �
 sealed_under z b f o h k key = send b (sealed_frame z (key_for key k) Aps k b.outgoing b.own 0 f h) o
 
 -- 6
-unfoldable pub sealed_for : Settings → Board → List ℕ → List ℕ → ℕ → ℕ → Place → Framed
-sealed_for z b f o h k (At i) = sealed_under z b f o h k (the_key (link_at b.links i).key)
-sealed_for z b f o h k Absent = framed (turned_down 6) b o
+unfoldable pub sealed_for : Settings → Board → List ℕ → List ℕ → ℕ → ℕ → Option ℕ → Framed
+sealed_for z b f o h k (Some i) = sealed_under z b f o h k (the_key (link_at b.links i).key)
+sealed_for z b f o h k None = framed (turned_down 6) b o
 
 -- 3, 4, 3; then 14
 unfoldable pub sealed_read : Settings → Board → List ℕ → ℕ → ℕ → List ℕ → PlainReading → Framed

@@ -25,10 +25,7 @@ pub(crate) fn key_for(key: [u8; 16], identifier: u8) -> [u8; 16]
 fn hashed(key: [u8; 16], x: u8) -> [u8; 16]
     ensures { result ≡ keyed_hash key (x ∷ []) }
 {
-    let one = [x];
-    let h = cipher::keyed_hash(key, &one);
-    let octets = h.octets;
-    octets
+    cipher::keyed_hash(key, &[x]).unwrap()
 }
 
 pub(crate) fn identifier(s: Secured) -> u8
@@ -41,6 +38,5 @@ pub(crate) fn identifier(s: Secured) -> u8
 pub(crate) fn key_named(l: Link, s: Secured) -> [u8; 16]
     ensures { the_key result ≡ key_named l s }
 {
-    let key = l.key;
-    key_for(key, identifier(s))
+    key_for(l.key, identifier(s))
 }

@@ -6,15 +6,6 @@ mod looking;
 mod opening;
 mod sealing;
 
-use answers::Opened;
-use board::Board;
 pub use looking::look_frame;
 pub use opening::open_frame;
 pub use sealing::seal_frame;
-
-// What opening answers, and the board that it leaves.
-#[derive(Clone, Copy)]
-pub struct Received {
-    pub answer: Opened,
-    pub board: Board,
-}

@@ -5,7 +5,7 @@ ghost use Rattle.board.specs.Requests.{link_of};
 ghost use Rattle.aps.specs.Opening.{looked_keyed, look_aps};
 
 use crate::keys::key_named;
-use board::{Board, Link, Place};
+use board::{Board, Link};
 use frames::{Layer, Read, Secured};
 use settings::LONGEST_APS;
 
@@ -17,13 +17,12 @@ pub fn look_frame(board: Board, frame: &[u8], given: u64) -> bool
     if LONGEST_APS < frame.len() {
         return false;
     }
-    match frames::read_frame(Layer::Aps, frame, given) {
-        Read::Refused(_) => false,
+    let Ok(read) = frames::read_frame(Layer::Aps, frame, given) else {
+        return false;
+    };
+    match read {
         Read::Plain(_) => false,
-        Read::Secured(s) => {
-            let links = board.links;
-            look_keyed(links, frame, s)
-        }
+        Read::Secured(s) => look_keyed(board.links, frame, s),
     }
 }
 
@@ -31,10 +30,7 @@ fn look_keyed(links: [Link; 8], f: &[u8], s: Secured) -> bool
     ensures { result ≡ looked_keyed ours links f.now s (link_of links s.sender) }
 {
     match board::link_of(links, s.sender) {
-        Place::At(i) => {
-            let l = links[i];
-            seals::look(key_named(l, s), f, s)
-        }
-        Place::Absent => false,
+        Some(i) => seals::look(key_named(links[i], s), f, s),
+        None => false,
     }
 }

@@ -5,14 +5,15 @@ ghost use Rattle.settings.specs.Settings.{ours, longest, longest_aps_plain};
 ghost use Rattle.octets.specs.Keys.{the_key};
 ghost use Rattle.answers.specs.Numbers.{told_sealed};
 ghost use Rattle.board.specs.Requests.{link_of};
-ghost use Rattle.board.specs.Sending.{with_outgoing, counter_after, framed, sending_of};
+ghost use Rattle.board.specs.Sending.{framed, sending_of};
+ghost use Rattle.board.specs.Code.{sent};
 ghost use Rattle.aps.specs.Sealing.{named, sealed_under, sealed_for, seal_aps};
 
 use crate::keys::key_for;
-use answers::{Outcome, Refusal, Sealed};
-use board::{Board, Link, Place, Sending, Sent};
-use frames::{Layer, PlainRead};
-use seals::Enclosed;
+use answers::Refusal;
+use board::{After, Board, Link, Sending};
+use frames::{Auxiliary, Layer};
+use seals::Outgoing;
 use settings::{LONGEST, LONGEST_APS_PLAIN};
 
 // Whether an identifier names a key of a link entry.
@@ -25,21 +26,25 @@ fn is_named(identifier: u8) -> bool
     identifier != 1
 }
 
-fn seal_under(sending: Sending, key: [u8; 16], k: u8, f: &[u8], h: usize, out: &mut [u8]) -> Sealed
-    requires { ((2 ≤ h) × (h ≤ length f.now)) × ((length f.now ≤ longest_aps_plain ours) × ((longest ≤ length out.old) × (named k ≡ true))) }
-    ensures { (b : Board) → sending_of b ≡ sending → framed (told_sealed result) (with_outgoing b (counter_after (told_sealed result) b.outgoing)) out.new ≡ sealed_under ours b f.now out.old h k (the_key key) }
+fn seal_under(
+    sending: Sending,
+    key: [u8; 16],
+    k: u8,
+    x: Outgoing,
+    out: &mut [u8],
+) -> Result<usize, Refusal>
+    requires { (length x.frame.now ≤ longest_aps_plain ours) × ((longest ≤ length out.old) × (named k ≡ true)) }
+    ensures { (b : Board) → sending_of b ≡ sending → sent b result out.new ≡ sealed_under ours b x.entry.frame.now out.old x.entry.header k (the_key key) }
 {
-    match board::may_send(sending) {
-        Outcome::Refused(r) => Sealed::Refused(r),
-        Outcome::Done => {
-            let named = key_for(key, k);
-            let counter = sending.counter;
-            match seals::seal(named, Layer::Aps, k, counter, sending.own, 0, f, h, out) {
-                Enclosed::Octets(n) => Sealed::Frame(n),
-                Enclosed::Nothing => Sealed::Refused(Refusal::Room),
-            }
-        }
-    }
+    board::may_send(sending)?;
+    let named = key_for(key, k);
+    let aux = Auxiliary {
+        identifier: k,
+        counter: sending.counter,
+        sender: sending.own,
+        sequence: 0,
+    };
+    seals::seal(named, Layer::Aps, aux, x.frame, x.header, out).ok_or(Refusal::Room)
 }
 
 fn seal_for(
@@ -47,56 +52,61 @@ fn seal_for(
     sending: Sending,
     a: u64,
     k: u8,
-    f: &[u8],
-    h: usize,
+    x: Outgoing,
     out: &mut [u8],
-) -> Sealed
-    requires { ((2 ≤ h) × (h ≤ length f.now)) × ((length f.now ≤ longest_aps_plain ours) × ((longest ≤ length out.old) × (named k ≡ true))) }
-    ensures { (b : Board) → b.links ≡ links → sending_of b ≡ sending → framed (told_sealed result) (with_outgoing b (counter_after (told_sealed result) b.outgoing)) out.new ≡ sealed_for ours b f.now out.old h k (link_of b.links a) }
+) -> Result<usize, Refusal>
+    requires { (length x.frame.now ≤ longest_aps_plain ours) × ((longest ≤ length out.old) × (named k ≡ true)) }
+    ensures { (b : Board) → b.links ≡ links → sending_of b ≡ sending → sent b result out.new ≡ sealed_for ours b x.entry.frame.now out.old x.entry.header k (link_of b.links a) }
 {
-    match board::link_of(links, a) {
-        Place::At(i) => {
-            let l = links[i];
-            let key = l.key;
-            seal_under(sending, key, k, f, h, out)
-        }
-        Place::Absent => Sealed::Refused(Refusal::NoKey),
-    }
+    let i = board::link_of(links, a).ok_or(Refusal::NoKey)?;
+    seal_under(sending, links[i].key, k, x, out)
 }
 
-fn seal_read(links: [Link; 8], sending: Sending, f: &[u8], a: u64, k: u8, out: &mut [u8]) -> Sealed
-    ensures { (b : Board) → b.links ≡ links → sending_of b ≡ sending → framed (told_sealed result) (with_outgoing b (counter_after (told_sealed result) b.outgoing)) out.new ≡ seal_aps ours b f.now a k out.old }
+fn seal_read(
+    links: [Link; 8],
+    sending: Sending,
+    f: &[u8],
+    a: u64,
+    k: u8,
+    out: &mut [u8],
+) -> Result<usize, Refusal>
+    ensures { (b : Board) → b.links ≡ links → sending_of b ≡ sending → sent b result out.new ≡ seal_aps ours b f.now a k out.old }
 {
     if out.len() < LONGEST {
-        return Sealed::Refused(Refusal::Room);
+        return Err(Refusal::Room);
     }
     if LONGEST_APS_PLAIN < f.len() {
-        return Sealed::Refused(Refusal::Long);
+        return Err(Refusal::Long);
     }
-    match frames::read_plain(Layer::Aps, f) {
-        PlainRead::Refused(r) => Sealed::Refused(r),
-        PlainRead::Header(h) => {
-            if !is_named(k) {
-                return Sealed::Refused(Refusal::Argument);
-            }
-            seal_for(links, sending, a, k, f, h, out)
-        }
+    let h = frames::read_plain(Layer::Aps, f)?;
+    if !is_named(k) {
+        return Err(Refusal::Argument);
     }
+    let x = Outgoing {
+        frame: f,
+        header: h,
+    };
+    seal_for(links, sending, a, k, x, out)
 }
 
 // Seals a plain APS frame for a partner under key identifier 0, 2 or 3: the secured frame stands at
 // the start of out, and the outgoing counter is spent. A refusal leaves the board and out as they
 // stood.
-pub fn seal_frame(board: Board, frame: &[u8], partner: u64, identifier: u8, out: &mut [u8]) -> Sent
+pub fn seal_frame(
+    board: Board,
+    frame: &[u8],
+    partner: u64,
+    identifier: u8,
+    out: &mut [u8],
+) -> After<usize>
     ensures { framed (told_sealed result.answer) result.board out.new ≡ seal_aps ours board frame.now partner identifier out.old }
 {
     // Made before the stages run: made behind them, it would be a second copy on the stack.
     let mut next = board;
-    let links = board.links;
     let sending = board::sending_of(board);
-    let answer = seal_read(links, sending, frame, partner, identifier, out);
+    let answer = seal_read(board.links, sending, frame, partner, identifier, out);
     next.outgoing = board::counter_after(answer, board.outgoing);
-    Sent {
+    After {
         answer,
         board: next,
     }

@@ -5,8 +5,11 @@ use mathlib.Core.List.{List}
 use Prim.Native.Nat.{ℕ, ◌+◌, ◌-◌, ◌<◌, ◌≤◌, min}
 use native.Mathlib.Nat.{le_refl}
 use native.Mathlib.Omega.{arith}
-use lib.ListN.{length, set, replicate, length-replicate, get_or-replicate}
+use lib.ListN.{length, drop, set, replicate, length-replicate, get_or-replicate}
 use lib.Seq.{paste, length-paste}
+use borrow.Rule.Slice.PartMut.{mid_of, put_mid}
+use Rattle.std.proofs.lemmas.List.{length-take, length-drop}
+use Rattle.std.proofs.lemmas.Slice.{put_mid-paste}
 use Rattle.octets.proofs.Pasted.{paste_more}
 use Rattle.board.specs.Rows.{freed}
 
@@ -23,6 +26,17 @@ module _ (l : List ℕ) (i n : ℕ) (h : i + n ≤ length l) where
   pub zeroed-all : zeroed n ≡ freed l i n
   unfolding freed
   zeroed-all = let e : min n (length l - i) ≡ n = omega arith in sym (ap (λ (m : ℕ). paste l i (replicate m 0) m) e)
+
+-- the n rows of a list from i on, written over by as many zeros
+pub filled : (l y : List ℕ) (i n : ℕ) → i + n ≤ length l → y ≡ replicate (length (mid_of i (i + n - i) l)) 0
+    → put_mid i (i + n - i) l y ≡ freed l i n
+unfolding freed
+filled l y i n h e =
+    let m = min n (length l - i) in
+    let k = i + n - i in
+    let same : min k (length l - i) ≡ m = omega arith in
+    let long : length (mid_of i k l) ≡ m = length-take k (drop i l) ∙ ap (min k) (length-drop i l) ∙ same in
+    put_mid-paste i k l y (replicate m 0) m (e ∙ ap (λ (j : ℕ). replicate j 0) long) (omega arith) (sym (length-replicate m 0))
 
 pub freed-length : (l : List ℕ) (i n : ℕ) → i + n ≤ length l → length (freed l i n) ≡ length l
 unfolding freed

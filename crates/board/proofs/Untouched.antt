@@ -1,6 +1,7 @@
 -- What the requests leave alone, said once for the history: the own address, both counters and the mark stay under every request
 -- that changes keys; network requests leave the link entries, link requests the slots and the active mark.
 -- Assumes nothing.
+use Rattle.std.proofs.Common.{Option, Some, None}
 use mathlib.Core.Path.{◌≡◌, refl}
 use mathlib.Core.Bool.{not}
 use Prim.Native.Nat.{ℕ, ◌-◌}
@@ -10,8 +11,6 @@ use Rattle.octets.specs.Addresses.{no_address}
 use Rattle.octets.specs.Lists.{eq_list}
 use Rattle.octets.specs.Keys.{Key}
 use Rattle.board.specs.declared.Board.{Board}
-use Rattle.board.specs.declared.Place.{Place}
-use Rattle.board.specs.declared.Place.TheVariants.{At, Absent}
 use Rattle.board.specs.Rows.{Lists, lists_fit}
 use Rattle.board.specs.State.{slot_at, link_at, carries, no_link, with_slot, with_link}
 use Rattle.board.specs.Requests.{Left, Changed, holds, installed, install, slot_of, switch_to, switch}
@@ -63,18 +62,18 @@ pub switch-keeps : (b : Board) (n : ℕ) → KeptByNetwork b (switch b n).board
 unfolding switch
 switch-keeps b n = go (slot_of b.slots n)
   where
-    go : (p : Place) → KeptByNetwork b (switch_to b p).board
-    go (At i) = record { own = refl; outgoing = refl; mark = refl; aps = refl; links = refl }
-    go Absent = same-network b
+    go : (p : Option ℕ) → KeptByNetwork b (switch_to b p).board
+    go (Some i) = record { own = refl; outgoing = refl; mark = refl; aps = refl; links = refl }
+    go None = same-network b
 
 -- switching moves no key either
 pub switch-slots : (b : Board) (n : ℕ) → (switch b n).board.slots ≡ b.slots
 unfolding switch
 switch-slots b n = go (slot_of b.slots n)
   where
-    go : (p : Place) → (switch_to b p).board.slots ≡ b.slots
-    go (At i) = refl
-    go Absent = refl
+    go : (p : Option ℕ) → (switch_to b p).board.slots ≡ b.slots
+    go (Some i) = refl
+    go None = refl
 
 pub add-keeps : (b : Board) (a : ℕ) (k : Key) → KeptByLinks b (add_link b a k).board
 unfolding add_link
@@ -83,13 +82,13 @@ add-keeps b a k = choose K (no_address a) _ _ (λ _. same-links b) λ _. place (
     K : Changed → Type 0
     K r = KeptByLinks b r.board
 
-    new : (p : Place) → K (add_new b a k p)
-    new (At i) = link-kept b i (added a k)
-    new Absent = same-links b
+    new : (p : Option ℕ) → K (add_new b a k p)
+    new (Some i) = link-kept b i (added a k)
+    new None = same-links b
 
-    place : (p : Place) → K (add_to b a k p)
-    place (At i) = choose K (eq_list (link_at b.links i).key k.octets) _ _ (λ _. same-links b) λ _. link-kept b i (added a k)
-    place Absent = new (free_link b.links)
+    place : (p : Option ℕ) → K (add_to b a k p)
+    place (Some i) = choose K (eq_list (link_at b.links i).key k.octets) _ _ (λ _. same-links b) λ _. link-kept b i (added a k)
+    place None = new (free_link b.links)
 
 pub remove-keeps : (b : Board) (a : ℕ) → KeptByLinks b (remove_link b a).board
 unfolding remove_link
@@ -98,6 +97,6 @@ remove-keeps b a = choose K (eqb a 0) _ _ (λ _. same-links b) λ _. place (link
     K : Changed → Type 0
     K r = KeptByLinks b r.board
 
-    place : (p : Place) → K (remove_at b p)
-    place (At i) = link-kept b i no_link
-    place Absent = same-links b
+    place : (p : Option ℕ) → K (remove_at b p)
+    place (Some i) = link-kept b i no_link
+    place None = same-links b

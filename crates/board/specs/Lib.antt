@@ -4,3 +4,4 @@ pub mod State
 pub mod Requests
 pub mod Mark
 pub mod Sending
+pub mod Code

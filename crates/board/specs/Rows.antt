@@ -2,11 +2,10 @@
 -- "Address 0 is a free row"; and for its 64 rows document 02 (iii): "Let the two lists have any equal, even length from 2 to 1,024; the
 -- first half belongs to slot 0. Other or unequal lengths are 1. 01's 32 reads half the length".
 -- Assumes nothing.
-use Rattle.std.specs.Prelude.{Bool, List, ℕ, ◌-◌, ◌/◌, ◌%◌, min, length, get_or, replicate, ◌==◌, nat_le}
+use Rattle.std.specs.Prelude.{Bool, List, ℕ, ◌-◌, ◌/◌, ◌%◌, min, length, get_or, replicate, ◌==◌, nat_le, Option}
 use Rattle.std.proofs.Math.Seq.{paste}
 use Rattle.settings.specs.Settings.{shortest_list, longest_list}
 use Rattle.octets.specs.Choice.{both}
-use Rattle.board.specs.declared.Place.{Place}
 use Rattle.board.specs.Places.{first_at}
 
 -- "The heard senders stand in two lent lists"
@@ -30,7 +29,7 @@ abbrev pub half : Lists → ℕ
 half w = length w.addrs / 2
 
 -- the lowest of the n rows from i on, so far as the list has them, that has address a
-unfoldable pub find_row : List ℕ → ℕ → ℕ → ℕ → Place
+unfoldable pub find_row : List ℕ → ℕ → ℕ → ℕ → Option ℕ
 find_row al i n a = first_at (λ r. get_or al r 0 == a) i (min n (length al - i))
 
 -- n rows from i on, so far as the list has them, all zero

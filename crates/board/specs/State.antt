@@ -3,13 +3,12 @@
 -- entries (present, partner, key, floor). Fresh: both counters 0, nothing present, the rest zero." And document 02 (vi): "Keep one saved
 -- number, the mark, in the host's store."
 -- Assumes nothing.
-use Rattle.std.specs.Prelude.{Bool, false, List, [], ℕ, get_or, set, ◌==◌}
+use Rattle.std.specs.Prelude.{Bool, false, List, [], ℕ, get_or, set, ◌==◌, Some, None}
 use Rattle.octets.specs.Choice.{both}
 use Rattle.octets.specs.Lists.{tab}
 use Rattle.board.specs.declared.Slot.{Slot}
 use Rattle.board.specs.declared.Link.{Link}
 use Rattle.board.specs.declared.Board.{Board}
-use Rattle.board.specs.declared.Active.TheVariants as actives
 
 -- ---- reading
 
@@ -48,7 +47,7 @@ fresh a m =
       mark = m;
       aps = 0;
       slots = tab 2 (λ i. no_slot);
-      active = actives.Nobody;
+      active = None;
       links = tab 8 (λ i. no_link);
     }
 
@@ -74,7 +73,7 @@ with_active b i =
       mark = b.mark;
       aps = b.aps;
       slots = b.slots;
-      active = actives.Slot i;
+      active = Some i;
       links = b.links;
     }
 

@@ -7,31 +7,30 @@ ghost use Rattle.board.specs.State.{slot_at, carries};
 ghost use Rattle.board.specs.Requests.{left, changed, holds, slot_of};
 ghost use Rattle.board.specs.Requests.{install, switch};
 
-use crate::places::{did, refuse};
+use crate::answered::{did, refuse};
 use crate::rows::{free_rows, lists_fit};
 use crate::state::{with_active, with_slot};
-use crate::{After, Board, Place, Slot};
+use crate::{After, Board, Slot};
 use answers::Refusal;
 
-fn carries_number(s: Slot, sequence: u8) -> bool
-    ensures { result ≡ carries s sequence }
+#[tactic(auto, unfolding(crate::specs::State::carries))]
+fn carries_number(s: &Slot, sequence: u8) -> bool
+    ensures { result ≡ carries s.now sequence }
 {
     s.present && s.seq == sequence
 }
 
-fn holds_key(s: Slot, sequence: u8, key: [u8; 16]) -> bool
-    ensures { result ≡ holds s sequence (the_key key) }
+#[tactic(auto, unfolding(crate::specs::Requests::holds))]
+fn holds_key(s: &Slot, sequence: u8, key: &[u8; 16]) -> bool
+    ensures { result ≡ holds s.now sequence (the_key key.now) }
 {
-    if !carries_number(s, sequence) {
-        return false;
-    }
-    let own = s.key;
-    octets::same(&own, &key)
+    carries_number(s, sequence) && octets::same(&s.key, key)
 }
 
 // Installs a network key. 1 where the lists don't fit; 14 for a slot above 1, or where the other
 // slot has that sequence number. The key that is there already changes nothing; any other
 // replaces the slot and frees its rows.
+#[tactic(auto, unfolding(crate::specs::Requests::install))]
 pub fn install(
     board: Board,
     addrs: &mut [u64],
@@ -39,7 +38,7 @@ pub fn install(
     slot: usize,
     sequence: u8,
     key: [u8; 16],
-) -> After
+) -> After<()>
     ensures { left (told result.answer) result.board (lists addrs.new floors.new) ≡ install board (lists addrs.old floors.old) slot sequence (the_key key) }
 {
     if !lists_fit(addrs, floors) {
@@ -49,12 +48,10 @@ pub fn install(
     if 1 < slot {
         return refuse(Refusal::Argument, board);
     }
-    let other = board.slots[1 - slot];
-    if carries_number(other, sequence) {
+    if carries_number(&board.slots[1 - slot], sequence) {
         return refuse(Refusal::Argument, board);
     }
-    let now = board.slots[slot];
-    if holds_key(now, sequence, key) {
+    if holds_key(&board.slots[slot], sequence, &key) {
         return did(board);
     }
     free_rows(addrs, floors, slot * rows, rows);
@@ -67,27 +64,19 @@ pub fn install(
 }
 
 // The lowest present slot with that sequence number.
-pub fn slot_of(slots: [Slot; 2], sequence: u8) -> Place
+pub fn slot_of(slots: [Slot; 2], sequence: u8) -> Option<usize>
     ensures { result ≡ slot_of slots sequence }
 {
-    let first = slots[0];
-    if carries_number(first, sequence) {
-        return Place::At(0);
-    }
-    let second = slots[1];
-    if carries_number(second, sequence) {
-        return Place::At(1);
-    }
-    Place::Absent
+    slots.iter().position(|s| carries_number(s, sequence))
 }
 
 // The present slot with that sequence number becomes active, else 13.
-pub fn switch(board: Board, sequence: u8) -> After
+#[tactic(auto, unfolding(crate::specs::Requests::switch))]
+pub fn switch(board: Board, sequence: u8) -> After<()>
     ensures { changed (told result.answer) result.board ≡ switch board sequence }
 {
-    let slots = board.slots;
-    match slot_of(slots, sequence) {
-        Place::At(i) => did(with_active(board, i)),
-        Place::Absent => refuse(Refusal::Absent, board),
+    match slot_of(board.slots, sequence) {
+        Some(i) => did(with_active(board, i)),
+        None => refuse(Refusal::Absent, board),
     }
 }

@@ -2,15 +2,15 @@
 // keys.
 #![tactic(auto)]
 
+mod answered;
 mod keys;
 mod mark;
 mod outgoing;
 mod partners;
-mod places;
 mod rows;
 mod state;
 
-use answers::{Outcome, Sealed};
+use answers::Refusal;
 pub use keys::{install, slot_of, switch};
 pub use mark::{move_mark, next_mark};
 pub use outgoing::{counter_after, may_send, sending_of};
@@ -18,34 +18,22 @@ pub use partners::{add_link, link_of, remove_link};
 pub use rows::{find_row, forget, lists_fit};
 pub use state::make;
 
-// The lowest place that was looked for.
-#[derive(Clone, Copy)]
-pub enum Place {
-    At(usize),
-    Absent,
-}
-
-// A network key and its sequence number.
-#[derive(Clone, Copy)]
+// A network key and its sequence number. An absent one keeps its fields, which the host may set and
+// is shown: so `present` stands beside them, and no Option around them.
+#[derive(Clone, Copy, Default)]
 pub struct Slot {
     pub present: bool,
     pub seq: u8,
     pub key: [u8; 16],
 }
 
-// A partner's link key; floor is the least counter still accepted under it.
-#[derive(Clone, Copy)]
+// A partner's link key, present as a slot is; floor is the least counter still accepted under it.
+#[derive(Clone, Copy, Default)]
 pub struct Link {
     pub present: bool,
     pub partner: u64,
     pub key: [u8; 16],
     pub floor: u32,
-}
-
-#[derive(Clone, Copy)]
-pub enum Active {
-    Nobody,
-    Slot(usize),
 }
 
 // The state. The mark is above every counter that was sent: the host's store holds it, or the next.
@@ -56,14 +44,14 @@ pub struct Board {
     pub mark: u32,
     pub aps: u8,
     pub slots: [Slot; 2],
-    pub active: Active,
+    pub active: Option<usize>,
     pub links: [Link; 8],
 }
 
 // A request's answer, and the board that it leaves.
 #[derive(Clone, Copy)]
-pub struct After {
-    pub answer: Outcome,
+pub struct After<T> {
+    pub answer: Result<T, Refusal>,
     pub board: Board,
 }
 
@@ -73,11 +61,4 @@ pub struct Sending {
     pub own: u64,
     pub counter: u32,
     pub mark: u32,
-}
-
-// What sealing answers, and the board that it leaves.
-#[derive(Clone, Copy)]
-pub struct Sent {
-    pub answer: Sealed,
-    pub board: Board,
 }

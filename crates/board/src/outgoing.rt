@@ -4,7 +4,7 @@ ghost use Rattle.answers.specs.Numbers.{told, told_sealed};
 ghost use Rattle.board.specs.Sending.{sending_of, may_send, counter_after};
 
 use crate::{Board, Sending};
-use answers::{Outcome, Refusal, Sealed};
+use answers::Refusal;
 use settings::TOP;
 
 // What sealing needs of the board.
@@ -19,29 +19,25 @@ pub fn sending_of(board: Board) -> Sending
 }
 
 // Whether a frame may go out: 7 where the counter is at its top, then 17 where it is not below the mark.
-pub fn may_send(sending: Sending) -> Outcome
+#[tactic(auto, unfolding(crate::specs::Sending::may_send))]
+pub fn may_send(sending: Sending) -> Result<(), Refusal>
     ensures { told result ≡ may_send sending }
 {
     if sending.counter == TOP {
-        return Outcome::Refused(Refusal::Top);
+        return Err(Refusal::Top);
     }
     if sending.mark <= sending.counter {
-        return Outcome::Refused(Refusal::Mark);
+        return Err(Refusal::Mark);
     }
-    Outcome::Done
+    Ok(())
 }
 
 // The outgoing counter behind an answer: sealing raises it by 1, and at its top it stays.
-pub fn counter_after(answer: Sealed, counter: u32) -> u32
+pub fn counter_after(answer: Result<usize, Refusal>, counter: u32) -> u32
     ensures { result ≡ counter_after (told_sealed answer) counter }
 {
     match answer {
-        Sealed::Frame(_) => {
-            if counter == TOP {
-                return counter;
-            }
-            counter + 1
-        }
-        Sealed::Refused(_) => counter,
+        Ok(_) => counter.saturating_add(1),
+        Err(_) => counter,
     }
 }

@@ -6,110 +6,72 @@ ghost use Rattle.octets.specs.Keys.{the_key};
 ghost use Rattle.board.specs.State.{pairs, with_link};
 ghost use Rattle.board.specs.Requests.{changed, link_of, free_link, added, add_new, add_to, add_link, remove_link};
 
-use crate::places::{did, refuse};
+use crate::answered::{did, refuse};
 use crate::state::{no_link, with_link};
-use crate::{After, Board, Link, Place};
+use crate::{After, Board, Link};
 use answers::Refusal;
 
-fn pairs_with(l: Link, partner: u64) -> bool
-    ensures { result ≡ pairs l partner }
+#[tactic(auto, unfolding(crate::specs::State::pairs))]
+fn pairs_with(l: &Link, partner: u64) -> bool
+    ensures { result ≡ pairs l.now partner }
 {
     l.present && l.partner == partner
 }
 
 // The lowest present entry for that partner.
-pub fn link_of(links: [Link; 8], partner: u64) -> Place
+pub fn link_of(links: [Link; 8], partner: u64) -> Option<usize>
     ensures { result ≡ link_of links partner }
 {
-    for i in 0..8 {
-        let l = links[i];
-        if pairs_with(l, partner) {
-            return Place::At(i);
-        }
-    }
-    Place::Absent
+    links.iter().position(|l| pairs_with(l, partner))
 }
 
-fn free_link(links: [Link; 8]) -> Place
+fn free_link(links: [Link; 8]) -> Option<usize>
     ensures { result ≡ free_link links }
 {
-    for i in 0..8 {
-        let l = links[i];
-        if !l.present {
-            return Place::At(i);
-        }
-    }
-    Place::Absent
+    links.iter().position(|l| !l.present)
 }
 
-// A partner's new key, floor 0, in entry i.
-fn put_link(board: Board, i: usize, partner: u64, key: [u8; 16]) -> After
-    requires { i < 8 }
-    ensures { changed (told result.answer) result.board ≡ changed done (with_link board i (added partner (the_key key))) }
+// A partner's new key, floor 0.
+fn added(partner: u64, key: [u8; 16]) -> Link
+    ensures { result ≡ added partner (the_key key) }
 {
-    let l = Link {
+    Link {
         present: true,
         partner,
         key,
         floor: 0,
-    };
-    did(with_link(board, i, l))
-}
-
-fn add_new(board: Board, partner: u64, key: [u8; 16]) -> After
-    ensures { changed (told result.answer) result.board ≡ add_new board partner (the_key key) (free_link board.links) }
-{
-    let links = board.links;
-    match free_link(links) {
-        Place::At(i) => put_link(board, i, partner, key),
-        Place::Absent => refuse(Refusal::Full, board),
     }
-}
-
-fn has_key(l: Link, key: [u8; 16]) -> bool
-    ensures { result ≡ eq_list l.key key }
-{
-    let own = l.key;
-    octets::same(&own, &key)
-}
-
-// A key for a partner who has one in entry i.
-fn add_again(board: Board, i: usize, partner: u64, key: [u8; 16]) -> After
-    requires { i < 8 }
-    ensures { changed (told result.answer) result.board ≡ add_to board partner (the_key key) (Place.At i) }
-{
-    let l = board.links[i];
-    if has_key(l, key) {
-        return did(board);
-    }
-    put_link(board, i, partner, key)
 }
 
 // Adds a link key: the same again changes nothing, another replaces it with floor 0, a new partner
 // takes the lowest free entry (none: 10). A partner zero or all ones is 14.
-pub fn add_link(board: Board, partner: u64, key: [u8; 16]) -> After
+#[tactic(auto, unfolding(crate::specs::Requests::add_link))]
+pub fn add_link(board: Board, partner: u64, key: [u8; 16]) -> After<()>
     ensures { changed (told result.answer) result.board ≡ add_link board partner (the_key key) }
 {
     if octets::no_address(partner) {
         return refuse(Refusal::Argument, board);
     }
-    let links = board.links;
-    match link_of(links, partner) {
-        Place::At(i) => add_again(board, i, partner, key),
-        Place::Absent => add_new(board, partner, key),
+    match link_of(board.links, partner) {
+        Some(i) if octets::same(&board.links[i].key, &key) => did(board),
+        Some(i) => did(with_link(board, i, added(partner, key))),
+        None => match free_link(board.links) {
+            Some(i) => did(with_link(board, i, added(partner, key))),
+            None => refuse(Refusal::Full, board),
+        },
     }
 }
 
 // Removes a partner's link key: its entry is zeroed; 13 where there is none.
-pub fn remove_link(board: Board, partner: u64) -> After
+#[tactic(auto, unfolding(crate::specs::Requests::remove_link))]
+pub fn remove_link(board: Board, partner: u64) -> After<()>
     ensures { changed (told result.answer) result.board ≡ remove_link board partner }
 {
     if partner == 0 {
         return refuse(Refusal::Absent, board);
     }
-    let links = board.links;
-    match link_of(links, partner) {
-        Place::At(i) => did(with_link(board, i, no_link())),
-        Place::Absent => refuse(Refusal::Absent, board),
+    match link_of(board.links, partner) {
+        Some(i) => did(with_link(board, i, no_link())),
+        None => refuse(Refusal::Absent, board),
     }
 }

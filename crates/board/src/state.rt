@@ -5,46 +5,40 @@ ghost use Rattle.board.specs.State.{no_slot, no_link, fresh, with_slot, with_act
 ghost use Rattle.board.specs.Requests.{changed};
 ghost use Rattle.board.specs.Requests.{make};
 
-use crate::places::{did, refuse};
-use crate::{Active, After, Board, Link, Slot};
+use crate::answered::{did, refuse};
+use crate::{After, Board, Link, Slot};
 use answers::Refusal;
+
+fn no_slot() -> Slot
+    ensures { result ≡ no_slot }
+{
+    Slot::default()
+}
 
 pub(crate) fn no_link() -> Link
     ensures { result ≡ no_link }
 {
-    Link {
-        present: false,
-        partner: 0,
-        key: [0u8; 16],
-        floor: 0,
-    }
+    Link::default()
 }
 
 fn fresh_board(own: u64, found: u32) -> Board
     ensures { result ≡ fresh own found }
 {
-    let slot = Slot {
-        present: false,
-        seq: 0,
-        key: [0u8; 16],
-    };
-    let link = no_link();
-    let slots = [slot; 2];
-    let links = [link; 8];
     Board {
         own,
         outgoing: found,
         mark: found,
         aps: 0,
-        slots,
-        active: Active::Nobody,
-        links,
+        slots: [no_slot(); 2],
+        active: None,
+        links: [no_link(); 8],
     }
 }
 
 // A fresh board with that address, which starts at the mark that it finds in the host's store, 0 on a
 // new one. An address of zero or all ones is 14, with a board without address.
-pub fn make(own: u64, found: u32) -> After
+#[tactic(auto, unfolding(crate::specs::Requests::make))]
+pub fn make(own: u64, found: u32) -> After<()>
     ensures { changed (told result.answer) result.board ≡ make own found }
 {
     if octets::no_address(own) {
@@ -57,34 +51,17 @@ pub(crate) fn with_slot(board: Board, i: usize, s: Slot) -> Board
     requires { i < 2 }
     ensures { result ≡ with_slot board i s }
 {
-    let mut slots = board.slots;
-    slots[i] = s;
-    let active = board.active;
-    let links = board.links;
-    Board {
-        own: board.own,
-        outgoing: board.outgoing,
-        mark: board.mark,
-        aps: board.aps,
-        slots,
-        active,
-        links,
-    }
+    let mut next = board;
+    next.slots[i] = s;
+    next
 }
 
 pub(crate) fn with_active(board: Board, i: usize) -> Board
     ensures { result ≡ with_active board i }
 {
-    let slots = board.slots;
-    let links = board.links;
     Board {
-        own: board.own,
-        outgoing: board.outgoing,
-        mark: board.mark,
-        aps: board.aps,
-        slots,
-        active: Active::Slot(i),
-        links,
+        active: Some(i),
+        ..board
     }
 }
 

@@ -1,5 +1,6 @@
 -- M1 to M12 of document 01: the one claim.
 -- Assumes nothing.
+use Rattle.std.proofs.Common.{Option, Some, None}
 use mathlib.Core.Path.{◌≡◌, refl, sym, ap, ◌∙◌}
 use mathlib.Core.Logic.{⊎_elim}
 use mathlib.Core.Bool.{Bool, true, false}
@@ -27,8 +28,6 @@ use Rattle.frames.proofs.Controls.{aux-numbered}
 use Rattle.answers.specs.Numbers.{turned_down}
 use Rattle.board.specs.declared.Board.{Board}
 use Rattle.board.specs.declared.Link.{Link}
-use Rattle.board.specs.declared.Place.{Place}
-use Rattle.board.specs.declared.Place.TheVariants.{At, Absent}
 use Rattle.board.specs.Places.{first_at}
 use Rattle.board.specs.Rows.{Lists, lists, lists_fit, half, find_row}
 use Rattle.board.specs.State.{link_at, pairs}
@@ -56,7 +55,7 @@ record Judged (t : Trial) : Type 0 where
   pub raises : (t.counter ≡ top → ⊥) → t.floor ≤ t.counter → t.Passes → t.leaves ≡ t.counter + 1
 
 -- the first place that passes
-first-is : (p : ℕ → Bool) (n i r : ℕ) → i ≤ r → r < i + n → p r ≡ true → ((k : ℕ) → i ≤ k → k < r → p k ≡ false) → first_at p i n ≡ At r
+first-is : (p : ℕ → Bool) (n i r : ℕ) → i ≤ r → r < i + n → p r ≡ true → ((k : ℕ) → i ≤ k → k < r → p k ≡ false) → first_at p i n ≡ Some r
 first-is p n i r low high t before = go (first_at p i n) refl
   where
     clash : {A : Type 0} (k : ℕ) → p k ≡ true → p k ≡ false → A
@@ -67,12 +66,12 @@ first-is p n i r low high t before = go (first_at p i n) refl
         choose (λ _. q ≡ r) (ltb q r) true false (λ b. clash q w.passes (before q w.low (ltb-true q r b)))
         (λ b. ⊎_elim (λ (e : r ≡ q). sym e) (λ (l : r < q). clash r t (w.before r low l)) (eq-or-lt_of_le (ltb-false q r b)))
 
-    go : (x : Place) → first_at p i n ≡ x → first_at p i n ≡ At r
-    go (At q) e = e ∙ ap At (same q (first_found p n i q e))
-    go Absent e = clash r t (first-none p n i e r low high)
+    go : (x : Option ℕ) → first_at p i n ≡ x → first_at p i n ≡ Some r
+    go (Some q) e = e ∙ ap Some (same q (first_found p n i q e))
+    go None e = clash r t (first-none p n i e r low high)
 
 -- row r is the one that sender a has in slot i, or gets there
-module _ (m : ℕ) (w : Lists) (i a r : ℕ) (e : row_for m w i a ≡ At r) where
+module _ (m : ℕ) (w : Lists) (i a r : ℕ) (e : row_for m w i a ≡ Some r) where
   abbrev addrs : List ℕ
   addrs = w.addrs
 
@@ -87,7 +86,7 @@ module _ (m : ℕ) (w : Lists) (i a r : ℕ) (e : row_for m w i a ≡ At r) wher
   has l x k = eqb (get_or l k 0) x
 
   -- where address x is first found among the slot's rows of l
-  abbrev row_in : List ℕ → ℕ → Place
+  abbrev row_in : List ℕ → ℕ → Option ℕ
   row_in l x = find_row l first m x
 
   -- the addresses once the row has the sender's
@@ -95,7 +94,7 @@ module _ (m : ℕ) (w : Lists) (i a r : ℕ) (e : row_for m w i a ≡ At r) wher
   left = set addrs r a
 
   -- the row is then the lowest that has its address
-  lowest : (x : ℕ) → row_in addrs x ≡ At r → ((k : ℕ) → first ≤ k → k < r → has addrs a k ≡ false) → row_in left a ≡ At r
+  lowest : (x : ℕ) → row_in addrs x ≡ Some r → ((k : ℕ) → first ≤ k → k < r → has addrs a k ≡ false) → row_in left a ≡ Some r
   unfolding find_row
   lowest x d none =
       let f = first_found (has addrs x) rows first r d in
@@ -104,18 +103,18 @@ module _ (m : ℕ) (w : Lists) (i a r : ℕ) (e : row_for m w i a ≡ At r) wher
       (eq-eqb _ _ (get_or-set_same addrs r a 0 (row-place addrs first m x r d)))
       (λ k b c. ap (λ (y : ℕ). eqb y a) (get_or-set_other addrs r k a 0 (λ q. omega arith)) ∙ none k b c)
 
-  heard : row_in left a ≡ At r
+  heard : row_in left a ≡ Some r
   unfolding row_for find_row
   heard = go (row_in addrs a) refl e
     where
-      go : (x : Place) → row_in addrs a ≡ x → or_free m w i x ≡ At r → row_in left a ≡ At r
-      go (At q) d u = lowest a (d ∙ u) (first_found (has addrs a) rows first r (d ∙ u)).before
-      go Absent d u =
+      go : (x : Option ℕ) → row_in addrs a ≡ x → or_free m w i x ≡ Some r → row_in left a ≡ Some r
+      go (Some q) d u = lowest a (d ∙ u) (first_found (has addrs a) rows first r (d ∙ u)).before
+      go None d u =
           let high = (first_found (has addrs 0) rows first r u).high in
           lowest 0 u (λ k b c. first-none (has addrs a) rows first d k b (omega arith))
 
 -- the floor that a sender finds behind its row's change
-left-floor : (w : Lists) (i a r v : ℕ) → row_for (half w) w i a ≡ At r → lists_fit w ≡ true
+left-floor : (w : Lists) (i a r v : ℕ) → row_for (half w) w i a ≡ Some r → lists_fit w ≡ true
     → floor_in (lists (set w.addrs r a) (set w.floors r v)) i a ≡ v
 unfolding floor_of
 left-floor w i a r v e f =
@@ -142,7 +141,7 @@ judged-row k f s w i =
     }
 
 -- the entry that was found is one that the list has: past its end nothing is present
-entry-there : (b : Board) (a i : ℕ) → link_of b.links a ≡ At i → i < length b.links
+entry-there : (b : Board) (a i : ℕ) → link_of b.links a ≡ Some i → i < length b.links
 unfolding link_of pairs
 entry-there b a i e = go b.links i (first_found (λ x. pairs (link_at b.links x) a) 8 0 i e).passes
   where

@@ -1,7 +1,7 @@
 -- Document 01, "Bench cases" (RULES 12.1): "Marked M, twelve in all, are shown of the definitions, gathered as one list and one
 -- claim". M2 to M8 are the cipher's.
 -- Assumes nothing.
-use Rattle.std.specs.Prelude.{◌≡◌, true, false, List, [], ◌∷◌, ℕ, ◌+◌, ◌≤◌, length}
+use Rattle.std.specs.Prelude.{◌≡◌, true, false, List, [], ◌∷◌, ℕ, ◌+◌, ◌≤◌, length, Some}
 use Rattle.settings.specs.Settings.{ours, top}
 use Rattle.octets.specs.Addresses.{no_address}
 use Rattle.octets.specs.Keys.{Key}
@@ -16,7 +16,6 @@ use Rattle.frames.specs.Security.{identifier_of, extended_of, wire_control, nonc
 use Rattle.frames.specs.Network.{network_control, network_form, network_secured, network_header, network_keyed}
 use Rattle.frames.specs.Reading.{refused, secured, announced, reading}
 use Rattle.board.specs.declared.Board.{Board}
-use Rattle.board.specs.declared.Place.TheVariants.{At}
 use Rattle.board.specs.Rows.{Lists, lists_fit, half}
 use Rattle.board.specs.State.{link_at}
 use Rattle.board.specs.Requests.{link_of}
@@ -47,7 +46,7 @@ pub record PassesRow (k : Key) (f : List ℕ) (s : Secured) (w : Lists) (i : ℕ
   pub message : List ℕ
   pub tag : message_of ours k f s ≡ valid message
   pub row : ℕ
-  pub found : row_for (half w) w i s.sender ≡ At row
+  pub found : row_for (half w) w i s.sender ≡ Some row
 
 -- the floor that sender a finds in slot i
 abbrev pub floor_in : Lists → ℕ → ℕ → ℕ
@@ -69,7 +68,7 @@ at_row k f s w i =
 
 -- every other check, at the APS layer: the sender's entry (6), and the tag (9)
 pub record PassesEntry (b : Board) (f : List ℕ) (s : Secured) (i : ℕ) : Type 0 where
-  pub entry : link_of b.links s.sender ≡ At i
+  pub entry : link_of b.links s.sender ≡ Some i
   pub message : List ℕ
   pub tag : message_of ours (aps.key_named (link_at b.links i) s) f s ≡ valid message
 

@@ -4,7 +4,11 @@ use mathlib.Core.Path.{◌≡◌, refl, ap, ap₂, ◌∙◌}
 use mathlib.Core.List.{List, [], ◌∷◌, ◌++◌}
 use Prim.Native.Nat.{ℕ, zero, suc, ◌+◌, ◌*◌, ◌/◌, ◌%◌, ◌^◌, ◌<◌}
 use native.Mathlib.Omega.{arith}
-use lib.Bits.{bit_and, bit_xor, and_mask, and_mod, and_shr, xor_mod, xor_shr}
+use lib.Bits.{bit_and, bit_or, bit_xor, and_mask, and_mod, and_shr, xor_mod, xor_shr}
+use Rattle.std.proofs.Common.{w32}
+use Rattle.std.proofs.lemmas.Nat.{or_disjoint}
+use Rattle.std.specs.Int.{to_le_bytes}
+use Rattle.std.specs.Int.Bits.{and_zero_l, and_zero_r}
 use Rattle.octets.specs.Lists.{at, tab}
 use Rattle.octets.specs.Least.{spelled}
 use Rattle.cipher.specs.Field.{xtime}
@@ -26,6 +30,29 @@ spelled-turned w h =
     let d = w / 256 / 256 / 256 % 256 in
     let e : w / 256 + w % 256 * 16777216 ≡ b + 256 * c + 65536 * d + 16777216 * (w % 256) = omega arith in
     ap (spelled 4) e ∙ spelled-four b c d (w % 256) (omega arith) (omega arith) (omega arith) (omega arith)
+
+-- a turn by one place, as std's `rotate_right` has it: no digit stands in both parts
+pub turned-or : (w : ℕ) → w < 2 ^ 32 → bit_or (w / 2 ^ 8) (w * 2 ^ 24 % 2 ^ 32) ≡ w / 256 + w % 256 * 16777216
+turned-or w h = or_disjoint (w / 2 ^ 8) (w * 2 ^ 24 % 2 ^ 32) apart ∙ omega arith
+  where
+    low : bit_and (w / 2 ^ 8) (w * 2 ^ 24 % 2 ^ 32) % 2 ^ 24 ≡ 0
+    low =
+        let e : w * 2 ^ 24 % 2 ^ 32 % 2 ^ 24 ≡ 0 = omega arith in
+        and_mod (w / 2 ^ 8) (w * 2 ^ 24 % 2 ^ 32) 24 ∙ ap (bit_and (w / 2 ^ 8 % 2 ^ 24)) e ∙ and_zero_r (w / 2 ^ 8 % 2 ^ 24)
+
+    high : bit_and (w / 2 ^ 8) (w * 2 ^ 24 % 2 ^ 32) / 2 ^ 24 ≡ 0
+    high =
+        let e : w / 2 ^ 8 / 2 ^ 24 ≡ 0 = omega arith in
+        and_shr (w / 2 ^ 8) (w * 2 ^ 24 % 2 ^ 32) 24
+        ∙ ap (λ (x : ℕ). bit_and x (w * 2 ^ 24 % 2 ^ 32 / 2 ^ 24)) e
+        ∙ and_zero_l (w * 2 ^ 24 % 2 ^ 32 / 2 ^ 24)
+
+    apart : bit_and (w / 2 ^ 8) (w * 2 ^ 24 % 2 ^ 32) ≡ 0
+    apart = omega (arith, low, high)
+
+-- the octets of a word, as std's `to_le_bytes` has them
+pub bytes-spelled : (n : ℕ) → to_le_bytes w32 n ≡ spelled 4 n
+bytes-spelled n = cons_same (omega arith) (cons_same (omega arith) (cons_same (omega arith) (cons_same (omega arith) refl)))
 
 spelled-added : (k a b : ℕ) → spelled k (bit_xor a b) ≡ tab k (λ j. bit_xor (at (spelled k a) j) (at (spelled k b) j))
 spelled-added zero a b = refl

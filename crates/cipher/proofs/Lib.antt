@@ -12,3 +12,7 @@ pub mod Lengths
 pub mod Cases
 pub mod Kept
 pub mod One
+pub mod Made
+pub mod Chunked
+pub mod Refusals
+pub mod Told

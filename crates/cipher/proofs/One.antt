@@ -3,11 +3,9 @@
 use mathlib.Core.Path.{◌≡◌, refl, sym, ap, ◌∙◌}
 use Prim.Native.Nat.{ℕ}
 use lib.Dec.{eqb}
-use Rattle.std.specs.Prelude.{if◌then◌else◌}
+use Rattle.std.specs.Prelude.{if◌then◌else◌, Result, Ok, Err}
 use Rattle.cipher.specs.declared.Fault.{Fault}
 use Rattle.cipher.specs.declared.Fault.TheVariants.{Room, Long, Short, Forged, Argument}
-use Rattle.cipher.specs.declared.Answer.{Answer}
-use Rattle.cipher.specs.declared.Answer.TheVariants.{Made, Refused}
 use Rattle.cipher.specs.Answers.{number, Count, made, refused, counted}
 
 fault_of : ℕ → Fault
@@ -21,14 +19,14 @@ fault-back Short = refl
 fault-back Forged = refl
 fault-back Argument = refl
 
-answer_of : Count → Answer
-answer_of (made n) = Made n
-answer_of (refused n) = Refused (fault_of n)
+result_of : Count → Result ℕ Fault
+result_of (made n) = Ok n
+result_of (refused n) = Err (fault_of n)
 
-count-back : (r : Answer) → answer_of (counted r) ≡ r
-unfolding answer_of
-count-back (Made n) = refl
-count-back (Refused f) = ap Refused (fault-back f)
+count-back : (r : Result ℕ Fault) → result_of (counted r) ≡ r
+unfolding result_of
+count-back (Ok n) = refl
+count-back (Err f) = ap Err (fault-back f)
 
-pub count-one : (r s : Answer) → counted r ≡ counted s → r ≡ s
-count-one r s e = sym (count-back r) ∙ ap answer_of e ∙ count-back s
+pub count-one : (r s : Result ℕ Fault) → counted r ≡ counted s → r ≡ s
+count-one r s e = sym (count-back r) ∙ ap result_of e ∙ count-back s

@@ -1,6 +1,6 @@
 -- What the callable routines answer, in document 01's numbers (RULES 10.2 to 10.4), and what they leave.
 -- Assumes nothing.
-use Rattle.std.specs.Prelude.{Bool, true, List, ℕ, ◌+◌, ◌-◌, ◌%◌, length, ◌==◌, nat_le}
+use Rattle.std.specs.Prelude.{Bool, true, List, ℕ, ◌+◌, ◌-◌, ◌%◌, length, ◌==◌, nat_le, Result, Ok, Err}
 use Rattle.std.specs.Prelude.{if◌then◌else◌}
 use Rattle.octets.specs.Choice.{both}
 use Rattle.octets.specs.Lists.{onto}
@@ -10,8 +10,6 @@ use Rattle.cipher.specs.Ccm.{ccm_seal, ccm_open, Verdict, valid, invalid}
 use Rattle.cipher.specs.Hash.{hash_of, keyed_hash}
 use Rattle.cipher.specs.declared.Fault.{Fault}
 use Rattle.cipher.specs.declared.Fault.TheVariants.{Room, Long, Short, Forged, Argument}
-use Rattle.cipher.specs.declared.Answer.{Answer}
-use Rattle.cipher.specs.declared.Answer.TheVariants.{Made, Refused}
 
 -- the number of a refusal in 01's table
 abbrev pub number : Fault → ℕ
@@ -26,9 +24,9 @@ pub data Count : Type 0 where
   made : ℕ → Count
   refused : ℕ → Count
 
-abbrev pub counted : Answer → Count
-counted (Made n) = made n
-counted (Refused f) = refused (number f)
+abbrev pub counted : Result ℕ Fault → Count
+counted (Ok n) = made n
+counted (Err f) = refused (number f)
 
 -- an answer, and the octets that go with it
 pub record Product : Type 0 where
@@ -37,6 +35,11 @@ pub record Product : Type 0 where
 
 abbrev pub product : Count → List ℕ → Product
 product t o = record { answer = t; octets = o }
+
+-- a hash with its 16 octets, or a refusal with zeros for them
+abbrev pub hashed : Result (List ℕ) Fault → Product
+hashed (Ok h) = product (made 16) h
+hashed (Err f) = product (refused (number f)) zero_block
 
 -- Annex A, prerequisite 4: "valid values for M are the integers 0, 4, 6, 8, 10, 12, 14, and 16"
 unfoldable pub tag_length : ℕ → Bool

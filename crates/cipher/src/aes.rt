@@ -8,6 +8,7 @@ ghost use Rattle.cipher.specs.Aes.{sub_bytes, shift_rows, mix_columns, add_block
 ghost use Rattle.cipher.specs.Code.{block_of, mixed_column};
 
 use crate::words::{add_words, block_of, doubled, rot_word, word, word_of, words_of};
+use std::array;
 
 // FIPS 197, figure 7.
 const SBOX: [u8; 256] = [
@@ -29,36 +30,106 @@ const SBOX: [u8; 256] = [
 // FIPS 197, 5.2: the first octets of Rcon[1] to Rcon[10], each the double of the one before.
 const RCON: [u8; 10] = [1, 2, 4, 8, 16, 32, 64, 128, 27, 54];
 
-// The S-box, to be lent downward.
-pub(crate) fn table() -> [u8; 256]
-    ensures { result ≡ sbox_table }
-{
-    SBOX
+// What FIPS 197 gives as tables. They are made once a call and lent downward, since a constant that is used in
+// place is rebuilt on the stack at each use.
+#[derive(Drop)]
+pub(crate) struct Tables {
+    substitutes: [u8; 256],
+    constants: [u8; 10],
+    ghost substituting: { substitutes ≡ sbox_table },
+    ghost doubling: { constants ≡ tab 10 rcon },
 }
 
-// The round constants, to be lent downward.
-pub(crate) fn round_constants() -> [u8; 10]
-    ensures { result ≡ tab 10 rcon }
-{
-    RCON
+// An expanded key: its eleven round keys, and the tables that they were made with.
+#[derive(Drop)]
+pub(crate) struct Keyed<'a> {
+    tables: &'a Tables,
+    pub(crate) keys: [[u8; 16]; 11],
 }
 
-fn sub_byte(sb: &[u8; 256], x: u8) -> u8
-    requires { sb.now ≡ sbox_table }
-    ensures { result ≡ sbox x }
-{
-    sb[x as usize]
-}
-
-fn sub_bytes(sb: &[u8; 256], s: [u8; 16]) -> [u8; 16]
-    requires { sb.now ≡ sbox_table }
-    ensures { result ≡ sub_bytes s }
-{
-    let mut t = [0u8; 16];
-    for i in 0..16 {
-        t[i] = sub_byte(sb, s[i]);
+impl Tables {
+    pub(crate) fn new() -> Self {
+        Tables {
+            substitutes: SBOX,
+            constants: RCON,
+        }
     }
-    t
+
+    fn sub_byte(&self, x: u8) -> u8
+        ensures { result ≡ sbox x }
+    {
+        self.substitutes[x as usize]
+    }
+
+    fn sub_bytes(&self, s: [u8; 16]) -> [u8; 16]
+        ensures { result ≡ sub_bytes s }
+    {
+        // `map` hands the octets on through a buffer of its own, and takes five times as long.
+        array::from_fn(|i| self.sub_byte(s[i]))
+    }
+
+    fn sub_and_shift(&self, s: [u32; 4]) -> [u8; 16]
+        ensures { result ≡ shift_rows (sub_bytes (block_of s)) }
+    {
+        shift_rows(self.sub_bytes(block_of(s)))
+    }
+
+    fn round(&self, s: [u32; 4], k: [u8; 16]) -> [u32; 4]
+        ensures { block_of result ≡ round_of (block_of s) k }
+    {
+        add_round_key(mix_columns(self.sub_and_shift(s)), k)
+    }
+
+    fn last_round(&self, s: [u32; 4], k: [u8; 16]) -> [u8; 16]
+        ensures { result ≡ last_round (block_of s) k }
+    {
+        block_of(add_round_key(words_of(self.sub_and_shift(s)), k))
+    }
+
+    // SubWord(RotWord(w[i - 1])) + Rcon, of the last word of a round key.
+    fn turned_word(&self, c: u8, k: [u8; 16]) -> u32
+        ensures { spelled 4 result ≡ turned_word c k }
+    {
+        let x = self.sub_byte(k[13]);
+        let y = self.sub_byte(k[14]);
+        let z = self.sub_byte(k[15]);
+        let v = self.sub_byte(k[12]);
+        word_of(x ^ c, y, z, v)
+    }
+
+    fn next_key(&self, c: u8, k: [u8; 16]) -> [u8; 16]
+        ensures { result ≡ next_key c k }
+    {
+        let t = self.turned_word(c, k);
+        spread_word(k, t)
+    }
+
+    pub(crate) fn expand(&self, key: [u8; 16]) -> Keyed<'_>
+        ensures { result.keys ≡ key_expansion key }
+    {
+        let mut keys = [key; 11];
+        let mut k = key;
+        for (i, c) in self.constants.iter().enumerate() {
+            // No proof is made of a call whose result goes straight into an array that stands.
+            let next = self.next_key(*c, k);
+            k = next;
+            keys[i + 1] = next;
+        }
+        Keyed { tables: self, keys }
+    }
+}
+
+impl Keyed<'_> {
+    pub(crate) fn encipher(&self, block: [u8; 16]) -> [u8; 16]
+        ensures { result ≡ cipher self.now.keys block }
+    {
+        let mut s = add_round_key(words_of(block), self.keys[0]);
+        for k in &self.keys[1..10] {
+            let next = self.tables.round(s, *k);
+            s = next;
+        }
+        self.tables.last_round(s, self.keys[10])
+    }
 }
 
 fn shift_rows(s: [u8; 16]) -> [u8; 16]
@@ -82,11 +153,7 @@ fn mix_column(w: u32) -> u32
 fn mix_columns(s: [u8; 16]) -> [u32; 4]
     ensures { block_of result ≡ mix_columns s }
 {
-    let a = mix_column(word(s, 0));
-    let b = mix_column(word(s, 1));
-    let c = mix_column(word(s, 2));
-    let d = mix_column(word(s, 3));
-    [a, b, c, d]
+    array::from_fn(|i| mix_column(word(s, i)))
 }
 
 pub(crate) fn add_blocks(a: [u8; 16], b: [u8; 16]) -> [u8; 16]
@@ -101,55 +168,6 @@ fn add_round_key(s: [u32; 4], k: [u8; 16]) -> [u32; 4]
     add_words(s, words_of(k))
 }
 
-fn sub_and_shift(sb: &[u8; 256], s: [u32; 4]) -> [u8; 16]
-    requires { sb.now ≡ sbox_table }
-    ensures { result ≡ shift_rows (sub_bytes (block_of s)) }
-{
-    shift_rows(sub_bytes(sb, block_of(s)))
-}
-
-fn round(sb: &[u8; 256], s: [u32; 4], k: [u8; 16]) -> [u32; 4]
-    requires { sb.now ≡ sbox_table }
-    ensures { block_of result ≡ round_of (block_of s) k }
-{
-    add_round_key(mix_columns(sub_and_shift(sb, s)), k)
-}
-
-fn last_round(sb: &[u8; 256], s: [u32; 4], k: [u8; 16]) -> [u8; 16]
-    requires { sb.now ≡ sbox_table }
-    ensures { result ≡ last_round (block_of s) k }
-{
-    block_of(add_round_key(words_of(sub_and_shift(sb, s)), k))
-}
-
-// A block enciphered under an expanded key.
-pub(crate) fn encipher(sb: &[u8; 256], w: &[[u8; 16]; 11], block: [u8; 16]) -> [u8; 16]
-    requires { sb.now ≡ sbox_table }
-    ensures { result ≡ cipher w.now block }
-{
-    let first = w[0];
-    let mut s = add_round_key(words_of(block), first);
-    for i in 0..9 {
-        let k = w[i + 1];
-        let next = round(sb, s, k);
-        s = next;
-    }
-    let last = w[10];
-    last_round(sb, s, last)
-}
-
-// SubWord(RotWord(w[i - 1])) + Rcon.
-fn turned_word(sb: &[u8; 256], c: u8, k: [u8; 16]) -> u32
-    requires { sb.now ≡ sbox_table }
-    ensures { spelled 4 result ≡ turned_word c k }
-{
-    let x = sub_byte(sb, k[13]);
-    let y = sub_byte(sb, k[14]);
-    let z = sub_byte(sb, k[15]);
-    let v = sub_byte(sb, k[12]);
-    word_of(x ^ c, y, z, v)
-}
-
 fn spread_word(k: [u8; 16], t: u32) -> [u8; 16]
     ensures { result ≡ spread k (spelled 4 t) }
 {
@@ -158,28 +176,4 @@ fn spread_word(k: [u8; 16], t: u32) -> [u8; 16]
     let c = word(k, 2) ^ b;
     let d = word(k, 3) ^ c;
     block_of([a, b, c, d])
-}
-
-fn next_key(sb: &[u8; 256], c: u8, k: [u8; 16]) -> [u8; 16]
-    requires { sb.now ≡ sbox_table }
-    ensures { result ≡ next_key c k }
-{
-    let t = turned_word(sb, c, k);
-    spread_word(k, t)
-}
-
-// The eleven round keys of a key.
-pub(crate) fn expand(sb: &[u8; 256], rc: &[u8; 10], key: [u8; 16]) -> [[u8; 16]; 11]
-    requires sb_value { sb.now ≡ sbox_table }
-    requires rc_value { rc.now ≡ tab 10 rcon }
-    ensures { result ≡ key_expansion key }
-{
-    let mut w = [key; 11];
-    let mut k = key;
-    for i in 0..10 {
-        let next = next_key(sb, rc[i], k);
-        k = next;
-        w[i + 1] = next;
-    }
-    w
 }

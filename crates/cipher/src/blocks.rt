@@ -1,21 +1,28 @@
 // Octet strings, a block of 16 at a time: whole ones by a copy of fixed length, the last one padded
 // with zeros.
-ghost use Rattle.std.specs.Prelude.{◌≡◌, ◌+◌, ◌≤◌, min, length};
+ghost use Rattle.std.specs.Prelude.{◌≡◌, ◌+◌, ◌≤◌, length};
 ghost use Rattle.std.proofs.Math.Seq.{paste};
-ghost use Rattle.cipher.specs.Blocks.{block_from};
+ghost use Rattle.cipher.specs.Blocks.{two_octets, block_from};
 
-// The block that starts at place i.
-pub(crate) fn block_from(d: &[u8], i: usize) -> [u8; 16]
-    requires { i ≤ length d.now }
-    ensures { result ≡ block_from d.now i }
+// The first 16 octets of d, or all and zeros behind them.
+pub(crate) fn zero_padded(d: &[u8]) -> [u8; 16]
+    ensures { result ≡ block_from d.now 0 }
 {
-    let mut t = [0u8; 16];
-    if 16 <= d.len() - i {
-        octets::paste_at(&mut t, 0, &d[i..i + 16]);
-    } else {
-        octets::paste_at(&mut t, 0, &d[i..]);
+    match d.first_chunk() {
+        Some(whole) => *whole,
+        None => {
+            let mut t = [0u8; 16];
+            t[..d.len()].copy_from_slice(d);
+            t
+        }
     }
-    t
+}
+
+// The lower two octets of n, the higher first.
+pub(crate) fn two_octets(n: usize) -> [u8; 2]
+    ensures { result ≡ two_octets n }
+{
+    ((n % 65536) as u16).to_be_bytes()
 }
 
 // The first n octets of a block laid into out at place i.
@@ -23,16 +30,5 @@ pub(crate) fn put_block(out: &mut [u8], i: usize, b: [u8; 16], n: usize)
     requires { (i + n ≤ length out.old) × (n ≤ 16) }
     ensures { out.new ≡ paste out.old i b n }
 {
-    if n == 16 {
-        octets::paste_at(out, i, &b);
-    } else {
-        octets::paste_at(out, i, &b[..n]);
-    }
-}
-
-// As many octets as a block takes of n.
-pub(crate) fn part_of(n: usize) -> usize
-    ensures { result ≡ min 16 n }
-{
-    if n < 16 { n } else { 16 }
+    out[i..i + n].copy_from_slice(&b[..n]);
 }

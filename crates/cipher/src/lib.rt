@@ -13,10 +13,14 @@ mod words;
 
 ghost use Rattle.std.specs.Prelude.{◌≡◌};
 ghost use Rattle.cipher.specs.Aes.{aes128};
-ghost use Rattle.cipher.specs.Answers.{product, counted, sealing, opening, hashing, keyed_hashing};
+ghost use Rattle.cipher.specs.Code.{judged};
+ghost use Rattle.cipher.specs.Answers.{product, counted, hashed, sealing, opening, hashing, keyed_hashing};
+
+use crate::aes::Tables;
+use crate::ccm::Ccm;
 
 // A refusal, by the number that document 01 gives it: 1, 2, 3, 9 and 14.
-#[derive(Clone, Copy)]
+#[derive(Clone, Copy, Debug, PartialEq, Eq)]
 pub enum Fault {
     Room,
     Long,
@@ -25,28 +29,25 @@ pub enum Fault {
     Argument,
 }
 
-// How many octets were made, or why none were.
-#[derive(Clone, Copy)]
-pub enum Answer {
-    Made(usize),
-    Refused(Fault),
-}
-
-// A hash, or a refusal with zeros for it.
-#[derive(Clone, Copy)]
-pub struct Hashed {
-    pub answer: Answer,
-    pub octets: [u8; 16],
-}
-
 // AES-128 of a block (FIPS 197).
 pub fn aes128_block(key: [u8; 16], block: [u8; 16]) -> [u8; 16]
     ensures { result ≡ aes128 key block }
 {
-    let sbox = aes::table();
-    let constants = aes::round_constants();
-    let keys = aes::expand(&sbox, &constants, key);
-    aes::encipher(&sbox, &keys, block)
+    let tables = Tables::new();
+    tables.expand(key).encipher(block)
+}
+
+// What sealing and opening refuse first.
+fn judged(tag: usize, authenticated: &[u8]) -> Result<(), Fault>
+    ensures { result ≡ judged tag authenticated.now }
+{
+    if !ccm::tag_length(tag) {
+        return Err(Fault::Argument);
+    }
+    if 128 < authenticated.len() {
+        return Err(Fault::Long);
+    }
+    Ok(())
 }
 
 // CCM* of Annex A: the payload enciphered, and its tag of so many octets, at the start of out. Refused
@@ -59,26 +60,24 @@ pub fn seal(
     authenticated: &[u8],
     payload: &[u8],
     out: &mut [u8],
-) -> Answer
+) -> Result<usize, Fault>
     ensures { product (counted result) out.new ≡ sealing tag key nonce authenticated.now payload.now out.old }
 {
-    if !ccm::tag_length(tag) {
-        return Answer::Refused(Fault::Argument);
-    }
-    if 128 < authenticated.len() {
-        return Answer::Refused(Fault::Long);
-    }
+    judged(tag, authenticated)?;
     if 128 < payload.len() {
-        return Answer::Refused(Fault::Long);
+        return Err(Fault::Long);
     }
     if out.len() < payload.len() + tag {
-        return Answer::Refused(Fault::Room);
+        return Err(Fault::Room);
     }
-    let sbox = aes::table();
-    let constants = aes::round_constants();
-    let keys = aes::expand(&sbox, &constants, key);
-    ccm::seal_with(&sbox, &keys, tag, nonce, authenticated, payload, out);
-    Answer::Made(payload.len() + tag)
+    let tables = Tables::new();
+    let ccm = Ccm {
+        key: tables.expand(key),
+        tag,
+        nonce,
+    };
+    ccm.seal(authenticated, payload, out);
+    Ok(payload.len() + tag)
 }
 
 // The reverse: what was sealed is taken for ciphertext and tag, and the plain octets are laid at the
@@ -92,64 +91,46 @@ pub fn unseal(
     authenticated: &[u8],
     sealed: &[u8],
     out: &mut [u8],
-) -> Answer
+) -> Result<usize, Fault>
     ensures { product (counted result) out.new ≡ opening tag key nonce authenticated.now sealed.now out.old }
 {
-    if !ccm::tag_length(tag) {
-        return Answer::Refused(Fault::Argument);
-    }
-    if 128 < authenticated.len() {
-        return Answer::Refused(Fault::Long);
-    }
+    judged(tag, authenticated)?;
     if 128 + tag < sealed.len() {
-        return Answer::Refused(Fault::Long);
+        return Err(Fault::Long);
     }
     if sealed.len() < tag {
-        return Answer::Refused(Fault::Short);
+        return Err(Fault::Short);
     }
     if out.len() < sealed.len() - tag {
-        return Answer::Refused(Fault::Room);
+        return Err(Fault::Room);
     }
-    let sbox = aes::table();
-    let constants = aes::round_constants();
-    let keys = aes::expand(&sbox, &constants, key);
-    ccm::open_with(&sbox, &keys, tag, nonce, authenticated, sealed, out)
+    let tables = Tables::new();
+    let ccm = Ccm {
+        key: tables.expand(key),
+        tag,
+        nonce,
+    };
+    ccm.open(authenticated, sealed, out)
 }
 
 // AES-MMO of up to 256 octets; more of them is 2.
-pub fn hash(input: &[u8]) -> Hashed
-    ensures { product (counted result.answer) result.octets ≡ hashing input.now }
+pub fn hash(input: &[u8]) -> Result<[u8; 16], Fault>
+    ensures { hashed result ≡ hashing input.now }
 {
     if 256 < input.len() {
-        return Hashed {
-            answer: Answer::Refused(Fault::Long),
-            octets: [0u8; 16],
-        };
+        return Err(Fault::Long);
     }
-    let sbox = aes::table();
-    let constants = aes::round_constants();
-    let octets = mmo::hash_from(&sbox, &constants, [0u8; 16], 0, input);
-    Hashed {
-        answer: Answer::Made(16),
-        octets,
-    }
+    let tables = Tables::new();
+    Ok(mmo::hash_from(&tables, [0u8; 16], 0, input))
 }
 
 // The keyed hash, HMAC over AES-MMO, of up to 240 octets; more of them is 2.
-pub fn keyed_hash(key: [u8; 16], input: &[u8]) -> Hashed
-    ensures { product (counted result.answer) result.octets ≡ keyed_hashing key input.now }
+pub fn keyed_hash(key: [u8; 16], input: &[u8]) -> Result<[u8; 16], Fault>
+    ensures { hashed result ≡ keyed_hashing key input.now }
 {
     if 240 < input.len() {
-        return Hashed {
-            answer: Answer::Refused(Fault::Long),
-            octets: [0u8; 16],
-        };
+        return Err(Fault::Long);
     }
-    let sbox = aes::table();
-    let constants = aes::round_constants();
-    let octets = mmo::keyed_hash_of(&sbox, &constants, key, input);
-    Hashed {
-        answer: Answer::Made(16),
-        octets,
-    }
+    let tables = Tables::new();
+    Ok(mmo::keyed_hash_of(&tables, key, input))
 }

@@ -1,13 +1,12 @@
 // AES-MMO (Annex B.6 of source document 002) and the keyed hash (HMAC over it).
 ghost use Rattle.std.specs.Prelude.{◌≡◌, ◌++◌, ◌≤◌, length};
 ghost use Rattle.octets.specs.Lists.{at, tab};
-ghost use Rattle.cipher.specs.Sbox.{sbox_table};
-ghost use Rattle.cipher.specs.Aes.{rcon};
 ghost use Rattle.cipher.specs.Blocks.{blocks, block_from, over};
 ghost use Rattle.cipher.specs.Code.{padded_after};
 ghost use Rattle.cipher.specs.Hash.{hashed_in, hash_of, plus_each, keyed_hash};
 
-use crate::aes::{add_blocks, encipher, expand};
+use crate::aes::{Tables, add_blocks};
+use std::array;
 
 // Octet i of d, padded, where b octets went before it.
 fn padded_octet(d: &[u8], b: usize, i: usize) -> u8
@@ -35,33 +34,26 @@ fn padded_block_from(d: &[u8], b: usize, i: usize) -> [u8; 16]
     requires { (length d.now ≤ 256) × ((b ≤ 16) × (i ≤ 512)) }
     ensures { result ≡ block_from (padded_after b d.now) i }
 {
-    let mut t = [0u8; 16];
-    for j in 0..16 {
-        t[j] = padded_octet(d, b, i + j);
-    }
-    t
+    array::from_fn(|j| padded_octet(d, b, i + j))
 }
 
 // E(Hash, M) + M.
-fn hash_in(sb: &[u8; 256], rc: &[u8; 10], h: [u8; 16], b: [u8; 16]) -> [u8; 16]
-    requires sb_value { sb.now ≡ sbox_table }
-    requires rc_value { rc.now ≡ tab 10 rcon }
+fn hash_in(tables: &Tables, h: [u8; 16], b: [u8; 16]) -> [u8; 16]
     ensures { result ≡ hashed_in h b }
 {
-    let w = expand(sb, rc, h);
-    add_blocks(encipher(sb, &w, b), b)
+    let key = tables.expand(h);
+    add_blocks(key.encipher(b), b)
 }
 
 // The hash from h on, over d, where b octets went before it.
-pub(crate) fn hash_from(sb: &[u8; 256], rc: &[u8; 10], h: [u8; 16], b: usize, d: &[u8]) -> [u8; 16]
-    requires sb_value { (sb.now ≡ sbox_table) × ((length d.now ≤ 256) × (b ≤ 16)) }
-    requires rc_value { rc.now ≡ tab 10 rcon }
+pub(crate) fn hash_from(tables: &Tables, h: [u8; 16], b: usize, d: &[u8]) -> [u8; 16]
+    requires { (length d.now ≤ 256) × (b ≤ 16) }
     ensures { result ≡ over hashed_in h (blocks (padded_after b d.now)) }
 {
     let n = (d.len() + 18) / 16;
     let mut x = h;
     for i in 0..n {
-        let next = hash_in(sb, rc, x, padded_block_from(d, b, 16 * i));
+        let next = hash_in(tables, x, padded_block_from(d, b, 16 * i));
         x = next;
     }
     x
@@ -70,41 +62,22 @@ pub(crate) fn hash_from(sb: &[u8; 256], rc: &[u8; 10], h: [u8; 16], b: usize, d:
 fn plus_each(k: [u8; 16], x: u8) -> [u8; 16]
     ensures { result ≡ plus_each k x }
 {
-    [
-        k[0] ^ x,
-        k[1] ^ x,
-        k[2] ^ x,
-        k[3] ^ x,
-        k[4] ^ x,
-        k[5] ^ x,
-        k[6] ^ x,
-        k[7] ^ x,
-        k[8] ^ x,
-        k[9] ^ x,
-        k[10] ^ x,
-        k[11] ^ x,
-        k[12] ^ x,
-        k[13] ^ x,
-        k[14] ^ x,
-        k[15] ^ x,
-    ]
+    array::from_fn(|i| k[i] ^ x)
 }
 
 // The hash of a key, each of its octets added to x, and then of d.
-fn hash_behind(sb: &[u8; 256], rc: &[u8; 10], k: [u8; 16], x: u8, d: &[u8]) -> [u8; 16]
-    requires sb_value { (sb.now ≡ sbox_table) × (length d.now ≤ 256) }
-    requires rc_value { rc.now ≡ tab 10 rcon }
+fn hash_behind(tables: &Tables, k: [u8; 16], x: u8, d: &[u8]) -> [u8; 16]
+    requires { length d.now ≤ 256 }
     ensures { result ≡ hash_of (plus_each k x ++ d.now) }
 {
-    let h = hash_in(sb, rc, [0u8; 16], plus_each(k, x));
-    hash_from(sb, rc, h, 16, d)
+    let h = hash_in(tables, [0u8; 16], plus_each(k, x));
+    hash_from(tables, h, 16, d)
 }
 
-pub(crate) fn keyed_hash_of(sb: &[u8; 256], rc: &[u8; 10], k: [u8; 16], d: &[u8]) -> [u8; 16]
-    requires sb_value { (sb.now ≡ sbox_table) × (length d.now ≤ 256) }
-    requires rc_value { rc.now ≡ tab 10 rcon }
+pub(crate) fn keyed_hash_of(tables: &Tables, k: [u8; 16], d: &[u8]) -> [u8; 16]
+    requires { length d.now ≤ 256 }
     ensures { result ≡ keyed_hash k d.now }
 {
-    let inner = hash_behind(sb, rc, k, 0x36, d);
-    hash_behind(sb, rc, k, 0x5c, &inner)
+    let inner = hash_behind(tables, k, 0x36, d);
+    hash_behind(tables, k, 0x5c, &inner)
 }

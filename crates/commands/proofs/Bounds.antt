@@ -1,19 +1,18 @@
 -- What the list and the judgement tell of sizes: the parts of a frame that is sound lie inside it.
 -- Assumes nothing.
-use Rattle.std.proofs.Common.{◌≡◌, ℕ, zero, suc, ◌+◌, ◌-◌, ◌≤◌, Bool, not, ltb, List, [], ◌∷◌, length, take, drop, sym, refl, ap, ◌∙◌, subst, le_refl, arith, length-drop, length-take, take_all, take-take, drop-drop, ltb-false}
+use Rattle.std.proofs.Common.{Result, Ok, Err, ◌≡◌, ℕ, zero, suc, ◌+◌, ◌-◌, ◌≤◌, not, ltb, List, [], ◌∷◌, length, take, drop, sym, refl, ap, ◌∙◌, subst, le_refl, arith, length-drop, length-take, take_all, take-take, drop-drop, ltb-false, Option, Some, None}
 use Rattle.octets.proofs.Choices.{choose}
 use Rattle.octets.specs.Lists.{at}
 use Rattle.answers.specs.Numbers.{ProtectionTold}
 use Rattle.settings.specs.Settings.{Settings, longest_aps}
 use Rattle.frames.specs.Reading.{PlainReading, unread, headed, reading_command}
 use Rattle.tlvs.proofs.Walks.{Inside, walked-inside}
-use Rattle.tlvs.specs.declared.Walked.{Walked}
+use Rattle.tlvs.specs.declared.Value.{Value}
+use Rattle.tlvs.specs.declared.Ill.{Ill}
 use Rattle.tlvs.specs.declared.Wanted.TheVariants.{Tag}
 use Rattle.tlvs.specs.Looking.{walked}
 use Rattle.commands.specs.declared.Kind.{Kind}
 use Rattle.commands.specs.declared.Kind.TheVariants.{Transport1, Transport4, Transport2, Transport3, Update, Remove, Request2, Request4, Switch, Tunnel, Verify, Confirm, Down, Up}
-use Rattle.commands.specs.declared.Listed.{Listed}
-use Rattle.commands.specs.declared.Listed.TheVariants.{Reserved, Is}
 use Rattle.commands.specs.declared.Secret.{Secret}
 use Rattle.commands.specs.declared.Secret.TheVariants.{NoSecret, Key, Hash}
 use Rattle.commands.specs.declared.Rest.{Rest}
@@ -22,8 +21,12 @@ use Rattle.commands.specs.declared.Span.{Span}
 use Rattle.commands.specs.Kinds.{listed}
 use Rattle.commands.specs.Table.{rule_of, fits, known, allows}
 use Rattle.commands.specs.Reading.{Judgement, refused, sound, judge_kind, judge_listed, judge_header, judge}
-use Rattle.commands.specs.Parts.{octets_at, key_in, hash_in, key_span, hash_span, rest_span, tlvs_in, inner_in, tlvs_span, inner_span, within, value_span}
-use Rattle.tlvs.specs.declared.Walked.TheVariants as walks
+use Rattle.commands.specs.Parts.{nowhere, octets_at, cut_at, key_in, hash_in, key_span, hash_span, rest_span, tlvs_in, inner_in, tlvs_span, inner_span, within, value_span}
+use Rattle.commands.specs.Code.{part_span}
+use Rattle.commands.specs.declared.Asked.{Asked}
+use Rattle.octets.specs.Parts.{Part, seen}
+use Rattle.std.specs.Borrow.{Bor}
+use Rattle.commands.specs.declared.Asked.TheVariants as asks
 
 pub size-most : (k : Kind) → (rule_of k).size ≤ 35
 unfolding rule_of
@@ -69,10 +72,6 @@ secret-in Up = omega arith
 pub part-rest : (i : ℕ) (l : List ℕ) → take (length l - i) (drop i l) ≡ drop i l
 part-rest i l = take_all (length l - i) (drop i l) (rw (length-drop i l) (le_refl (length l - i)))
 
-pub rest-fits : (z : Settings) (r : Rest) (i : ℕ) (l : List ℕ) (t : Bool) → t ≡ fits z r (take (length l - i) (drop i l))
-    → fits z r (drop i l) ≡ t
-rest-fits z r i l t e = ap (fits z r) (sym (part-rest i l)) ∙ sym e
-
 -- ---- a frame that is sound has room for its command
 
 abbrev pub Sized : List ℕ → Judgement → Type 0
@@ -88,10 +87,10 @@ module _ (z : Settings) (f : List ℕ) (p : ProtectionTold) where
       λ _. choose (Sized f) (not (allows (rule_of k).under p)) (refused 12) (sound k) (λ _. omega arith)
       (λ _. ltb-false (length f) (2 + (rule_of k).size) e)
 
-  listed-sized : (l : Listed) → Sized f (judge_listed z f p l)
+  listed-sized : (l : Option Kind) → Sized f (judge_listed z f p l)
   unfolding judge_listed
-  listed-sized Reserved = omega arith
-  listed-sized (Is k) = kind-sized k
+  listed-sized None = omega arith
+  listed-sized (Some k) = kind-sized k
 
   header-sized : (r : PlainReading) → Sized f (judge_header z f p r)
   unfolding judge_header
@@ -169,25 +168,30 @@ module _ (f : List ℕ) where
       most : length (octets_at f q) ≤ q.count
       most = rw (length-take q.count (drop q.from f)) (omega arith)
 
-      go : (x : Walked) → Inside (length (octets_at f q)) x → Holds f (within q.from x)
-      go walks.Ill i = omega arith
-      go walks.Absent i = omega arith
-      go (walks.At j n) i = omega (arith, most, i.0)
+      go : (x : Result (Option Value) Ill) → Inside (length (octets_at f q)) x → Holds f (within q.from x)
+      go (Err e) i = omega arith
+      go (Ok None) i = omega arith
+      go (Ok (Some v)) i = omega (arith, most, i.0)
 
-  -- ---- of a span that was answered for a judgement that is the frame's
+  -- ---- of the part asked for, by the frame's judgement
 
-  module _ (z : Settings) (p : ProtectionTold) (v : Judgement) (q : Span) (e : v ≡ judge z f p) where
-    pub key-holds : q ≡ key_span v → Holds f q
-    key-holds g = subst (Holds f) (sym g) (key-at v (subst (Sized f) (sym e) (judge-sized z f p)))
+  asked-at : (a : Asked) (v : Judgement) → Sized f v → Holds f (part_span a (length f) v)
+  asked-at asks.Key v h = key-at v h
+  asked-at asks.Hash v h = hash_at v h
+  asked-at asks.Tlvs v h = tlvs-at v h
+  asked-at asks.Inner v h = inner-at v h
 
-    pub hash-holds : q ≡ hash_span v → Holds f q
-    hash-holds g = subst (Holds f) (sym g) (hash_at v (subst (Sized f) (sym e) (judge-sized z f p)))
+  pub asked-holds : (z : Settings) (p : ProtectionTold) (a : Asked) (v : Judgement) (q : Span) → v ≡ judge z f p
+      → q ≡ part_span a (length f) v → Holds f q
+  asked-holds z p a v q e g = subst (Holds f) (sym g) (asked-at a v (subst (Sized f) (sym e) (judge-sized z f p)))
 
-    pub tlvs-holds : q ≡ tlvs_span (length f) v → Holds f q
-    tlvs-holds g = subst (Holds f) (sym g) (tlvs-at v (subst (Sized f) (sym e) (judge-sized z f p)))
-
-    pub inner-holds : q ≡ inner_span (length f) v → Holds f q
-    inner-holds g = subst (Holds f) (sym g) (inner-at v (subst (Sized f) (sym e) (judge-sized z f p)))
+-- a refusal has no part
+pub asked-nowhere : (a : Asked) (n m : ℕ) → part_span a n (refused m) ≡ nowhere
+unfolding key_span hash_span tlvs_span inner_span
+asked-nowhere asks.Key n m = refl
+asked-nowhere asks.Hash n m = refl
+asked-nowhere asks.Tlvs n m = refl
+asked-nowhere asks.Inner n m = refl
 
 -- ---- parts
 
@@ -201,19 +205,14 @@ take_within m (suc i) (suc n) (x ∷ l) h = take_within m i n l (omega arith)
 pub part-within : (l : List ℕ) (a n i m : ℕ) → i + m ≤ n → take m (drop i (take n (drop a l))) ≡ take m (drop (a + i) l)
 part-within l a n i m h = take_within m i n (drop a l) h ∙ ap (take m) (drop-drop i a l)
 
-pub upto : (a n : ℕ) → a + n - a ≡ n
-upto a n = omega arith
-
 pub same_span : {p q : Span} → p.from ≡ q.from → p.count ≡ q.count → p ≡ q
 same_span {p} {q} a b = λ i. record { from = a i; count = b i }
 
--- what was found in the TLVs at span q, which are lent as a part
-module _ (f : List ℕ) (tag : ℕ) (q : Span) (x : Walked) (e : x ≡ walked (Tag tag)
-    (take (q.from + q.count - q.from) (drop q.from f))) where
-  pub value-at : (y : Walked) → x ≡ y → within q.from y ≡ value_span f tag q
+-- what was found in the TLVs r, which stand in f at span q
+module _ (f r : Bor (List ℕ)) (tag : ℕ) (q : Span) (lent : seen r ≡ cut_at f q) (x : Result (Option Value) Ill) (e : x ≡ walked (Tag tag) r.now) where
+  pub value-at : (y : Result (Option Value) Ill) → x ≡ y → within q.from y ≡ value_span f.now tag q
   unfolding value_span
-  value-at y g = ap (within q.from) (sym g ∙ e ∙ ap (λ (n : ℕ). walked (Tag tag) (take n (drop q.from f)))
-      (upto q.from q.count))
+  value-at y g = ap (within q.from) (sym g ∙ e ∙ ap (λ (p : Part). walked (Tag tag) p.octets) lent)
 
-  pub found-holds : Holds f q → (i n : ℕ) → x ≡ walks.At i n → q.from + i + n ≤ length f
-  found-holds h i n g = subst (Holds f) (sym (value-at (walks.At i n) g)) (value-holds f tag q h)
+  pub found-holds : Holds f.now q → (v : Value) → x ≡ Ok (Some v) → q.from + v.start + v.size ≤ length f.now
+  found-holds h v g = subst (Holds f.now) (sym (value-at (Ok (Some v)) g)) (value-holds f.now tag q h)

@@ -14,7 +14,8 @@ use Rattle.commands.specs.Table.{rule_of, least_inner, fits}
 use Rattle.commands.specs.Numbers.{CommandTold, untyped, typed}
 use Rattle.commands.specs.Reading.{Judgement, refused, sound, judge, command_in, ReadTold, read, unread, answered, read_command}
 use Rattle.commands.specs.Parts.{nowhere, rest_span, inner_in, inner_span}
-use Rattle.commands.proofs.Bounds.{Holds, inner-holds}
+use Rattle.commands.proofs.Bounds.{Holds, asked-holds}
+use Rattle.commands.specs.declared.Asked.TheVariants as asks
 use Rattle.commands.proofs.Judging.{Meets, judge-told}
 
 -- the identifier of a command
@@ -62,4 +63,4 @@ module _ (z : Settings) (f : List ℕ) (p : ProtectionTold) where
   inner-least = inner-ways (λ _ (q : Span). (q ≡ nowhere) ⊎ (least_inner z ≤ q.count)) (λ _. inl refl) (λ _ _. inl refl) inr
 
   pub inner-within : Holds f (inner_span (length f) (judge z f p))
-  inner-within = inner-holds f z p (judge z f p) (inner_span (length f) (judge z f p)) refl refl
+  inner-within = asked-holds f z p asks.Inner (judge z f p) (inner_span (length f) (judge z f p)) refl refl

@@ -1,6 +1,6 @@
 -- What a judgement that finds a command rests on, in both directions; and the list of identifiers read backwards.
 -- Assumes nothing.
-use Rattle.std.proofs.Common.{◌≡◌, ℕ, ◌+◌, ◌≤◌, true, not, ltb, List, length, drop, sym, refl, ap, subst, arith, ltb-false, le-ltb}
+use Rattle.std.proofs.Common.{◌≡◌, ℕ, ◌+◌, ◌≤◌, true, not, ltb, List, length, drop, sym, refl, ap, subst, arith, ltb-false, le-ltb, Option, Some, None}
 use borrow.Author.Tests.{not-false}
 use Rattle.octets.proofs.Choices.{choose}
 use Rattle.octets.specs.Lists.{at}
@@ -8,8 +8,6 @@ use Rattle.answers.specs.Numbers.{ProtectionTold}
 use Rattle.settings.specs.Settings.{Settings, longest_aps}
 use Rattle.frames.specs.Reading.{PlainReading, headed, reading_command}
 use Rattle.commands.specs.declared.Kind.{Kind}
-use Rattle.commands.specs.declared.Listed.{Listed}
-use Rattle.commands.specs.declared.Listed.TheVariants.{Reserved, Is}
 use Rattle.commands.specs.Kinds.{listed}
 use Rattle.commands.specs.Table.{rule_of, fits, known, allows}
 use Rattle.commands.specs.Numbers.{CommandTold}
@@ -27,7 +25,7 @@ pub record Meets (z : Settings) (f : List ℕ) (p : ProtectionTold) (k : Kind) :
 pub record Sound (z : Settings) (f : List ℕ) (p : ProtectionTold) (k : Kind) : Type 0 where
   pub protected : known p ≡ true
   pub short : length f ≤ longest_aps
-  pub listing : listed (at f 2) (at f 3) ≡ Is k
+  pub listing : listed (at f 2) (at f 3) ≡ Some k
   pub meets : Meets z f p k
 
 refused-sound : {A : Type 0} (n : ℕ) (k : Kind) → refused n ≡ sound k → A
@@ -58,14 +56,14 @@ module _ (z : Settings) (f : List ℕ) (p : ProtectionTold) where
   unfolding judge_kind
   kind-judged k m = simp (le-ltb (length f) (2 + (rule_of k).size) m.sized, m.fitting, m.allowed)
 
-  listed-told : (l : Listed) (k : Kind) → judge_listed z f p l ≡ sound k → (l ≡ Is k) × Meets z f p k
+  listed-told : (l : Option Kind) (k : Kind) → judge_listed z f p l ≡ sound k → (l ≡ Some k) × Meets z f p k
   unfolding judge_listed
-  listed-told Reserved k e = refused-sound 11 k e
-  listed-told (Is j) k e =
+  listed-told None k e = refused-sound 11 k e
+  listed-told (Some j) k e =
       let t = kind-told j k e in
-      (ap Is t.0, subst (Meets z f p) t.0 t.1)
+      (ap Some t.0, subst (Meets z f p) t.0 t.1)
 
-  header-told : (r : PlainReading) (k : Kind) → judge_header z f p r ≡ sound k → (listed (at f 2) (at f 3) ≡ Is k) × Meets z f p k
+  header-told : (r : PlainReading) (k : Kind) → judge_header z f p r ≡ sound k → (listed (at f 2) (at f 3) ≡ Some k) × Meets z f p k
   unfolding judge_header
   header-told (frames.unread n) k e = refused-sound n k e
   header-told (headed h) k e = listed-told (listed (at f 2) (at f 3)) k e

@@ -1,33 +1,23 @@
 -- Laws of laying octets one behind another, and of the frame that the writer lays.
 -- Assumes nothing.
-use Rattle.std.proofs.Common.{◌≡◌, ℕ, ◌+◌, ◌-◌, ◌<◌, ◌≤◌, Bool, true, false, eqb, List, [], ◌∷◌, ◌++◌, length, take, drop, sym, refl, ap, ◌∙◌, subst, ap₂, le_refl, arith, length-append, length-drop, drop-drop, take_at, le-ltb, lt-ltb, eq-eqb, ne_eqb, eqb-true}
-use lib.Seq.{take-paste, take-length, drop-append-add}
+use Rattle.std.proofs.Common.{◌≡◌, ℕ, ◌+◌, ◌-◌, ◌<◌, ◌≤◌, Bool, true, eqb, List, [], ◌∷◌, ◌++◌, length, drop, sym, refl, ap, ◌∙◌, ap₂, arith, length-append, length-drop, drop-drop, take_at, le-ltb, lt-ltb, eqb-true}
+use lib.Seq.{take-length, drop-append-add}
 use Rattle.octets.proofs.Choices.{both-parts}
 use Rattle.octets.proofs.Pasted.{pasted-fits, pasted-onto}
-use Rattle.octets.specs.Choice.{both}
 use Rattle.octets.specs.Lists.{onto, pasted}
 use Rattle.settings.specs.Settings.{Settings, longest_aps}
-use Rattle.answers.specs.Numbers.{FrameTold, written, turned_down}
+use Rattle.answers.specs.Numbers.{written, turned_down}
 use Rattle.board.specs.declared.Board.{Board}
 use Rattle.board.specs.Sending.{framed}
 use Rattle.commands.specs.declared.Command.{Command}
 use Rattle.commands.specs.declared.Command.TheVariants.{TransportKey, UpdateDevice, RemoveDevice, RequestKey, SwitchKey, Tunnel, VerifyKey, ConfirmKey, RelayDownstream, RelayUpstream}
-use Rattle.commands.specs.declared.Line.{Line}
 use Rattle.commands.specs.declared.Rule.{Rule}
 use Rattle.commands.specs.Kinds.{kind_of}
 use Rattle.commands.specs.Table.{rule_of, fits, secret_size}
 use Rattle.commands.specs.Writing.{command_control, own_octets, frame_of, whole, aps_raised, write_command}
-use Rattle.commands.specs.Code.{lined}
 use Rattle.commands.proofs.Bounds.{size-most}
 use Rattle.commands.specs.declared.Transported.TheVariants as transports
 use Rattle.commands.specs.declared.Requested.TheVariants as requests
-
--- s laid behind the first n octets of l
-pub line-more : (l m s : List ℕ) (n : ℕ) → m ≡ pasted l n s → n + length s ≤ length l → take (n + length s) m ≡ take n l ++ s
-line-more l m s n e h =
-    ap (take (n + length s)) (e ∙ pasted-fits l n s h)
-    ∙ take-paste l n s (length s) (omega arith) (le_refl (length s))
-    ∙ ap (λ (x : List ℕ). take n l ++ x) (take-length s)
 
 -- t laid behind s, which stands at the start of o
 laid_more : (o m l s t : List ℕ) (n : ℕ) → length s ≡ n → m ≡ onto s o → l ≡ pasted m n t → n + length t ≤ length o → l ≡ onto (s ++ t) o
@@ -77,15 +67,6 @@ own-length RelayUpstream k h = refl
 
 -- ---- the parts lent
 
-module _ (z : Settings) (u : Rule) (k r : List ℕ) (n : ℕ) (e : n ≡ secret_size u.secret) where
-  pub whole-not : (length k ≡ n → ⊥) → false ≡ whole z u k r
-  unfolding whole
-  whole-not h = ap (λ (t : Bool). both t (fits z u.rest r)) (sym (ne_eqb (length k) (secret_size u.secret) (λ g. h (g ∙ sym e))))
-
-  pub whole_by : length k ≡ n → (t : Bool) → t ≡ fits z u.rest r → t ≡ whole z u k r
-  unfolding whole
-  whole_by h t g = g ∙ ap (λ (t : Bool). both t (fits z u.rest r)) (sym (eq-eqb (length k) (secret_size u.secret) (h ∙ e)))
-
 pub whole-secret : (z : Settings) (u : Rule) (k r : List ℕ) → whole z u k r ≡ true → length k ≡ secret_size u.secret
 unfolding whole
 whole-secret z u k r e = eqb-true (length k) (secret_size u.secret)
@@ -97,19 +78,12 @@ whole-rest z u k r e = (both-parts (eqb (length k) (secret_size u.secret)) (fits
 
 -- ---- what the writer answers
 
-pub frame-up : {t u : FrameTold} {b c : Board} (o : List ℕ) → t ≡ u → b ≡ c → framed t b o ≡ framed u c o
-frame-up o p q = ap₂ (λ (x : FrameTold) (y : Board). framed x y o) p q
-
 module _ (z : Settings) (b : Board) (ack : Bool) (c : Command) (k r o : List ℕ) where
   pub frame-length : whole z (rule_of (kind_of c)) k r ≡ true → length (frame_of b ack c k r) ≡ 2 + (rule_of (kind_of c)).size + length r
   unfolding frame_of
   frame-length w =
       let e : length (own_octets c k ++ r) ≡ length (own_octets c k) + length r = length-append (own_octets c k) r in
       omega (arith, e, own-length c k (whole-secret z (rule_of (kind_of c)) k r w))
-
-  pub refuses-room : length o < longest_aps → framed (turned_down 1) b o ≡ write_command z b ack c k r o
-  unfolding write_command
-  refuses-room h = simp (lt-ltb _ _ h)
 
   -- by the rule u that was looked up
   module _ (u : Rule) (e : u ≡ rule_of (kind_of c)) where
@@ -120,10 +94,6 @@ module _ (z : Settings) (b : Board) (ack : Bool) (c : Command) (k r o : List ℕ
     lent-secret w = whole-secret z (rule_of (kind_of c)) k r (ruled true (sym w))
 
     module _ (h : longest_aps ≤ length o) where
-      pub refuses-parts : whole z u k r ≡ false → framed (turned_down 11) b o ≡ write_command z b ack c k r o
-      unfolding write_command
-      refuses-parts w = simp (le-ltb _ _ h, ruled false (sym w))
-
       pub refuses-long : whole z u k r ≡ true → longest_aps - 2 - u.size < length r
           → framed (turned_down 2) b o ≡ write_command z b ack c k r o
       unfolding write_command
@@ -132,28 +102,17 @@ module _ (z : Settings) (b : Board) (ack : Bool) (c : Command) (k r o : List ℕ
           let s : u.size ≡ (rule_of (kind_of c)).size = ap (λ (x : Rule). x.size) e in
           simp (le-ltb _ _ h, v, lt-ltb longest_aps (length (frame_of b ack c k r)) (omega (arith, frame-length v, size-most (kind_of c), s)))
 
-      pub writes : whole z u k r ≡ true → length r ≤ longest_aps - 2 - u.size → (x : ℕ) (l : Line) (n : ℕ) (d : Board) (m : List ℕ)
-          → x ≡ command_control ack → l.count ≡ (rule_of (kind_of c)).size → lined l ≡ own_octets c k
-          → n ≡ 2 + l.count + length r → d ≡ aps_raised b → m ≡ onto (x ∷ b.aps ∷ (lined l ++ r)) o
+      pub writes : whole z u k r ≡ true → length r ≤ longest_aps - 2 - u.size → (x : ℕ) (l : List ℕ) (n : ℕ) (d : Board) (m : List ℕ)
+          → x ≡ command_control ack → l ≡ own_octets c k
+          → n ≡ 2 + length l + length r → d ≡ aps_raised b → m ≡ onto (x ∷ b.aps ∷ (l ++ r)) o
           → framed (written n) d m ≡ write_command z b ack c k r o
       unfolding write_command frame_of
-      writes w g x l n d m i a j p q y =
+      writes w g x l n d m i j p q y =
           let v = ruled true (sym w) in
           let s : u.size ≡ (rule_of (kind_of c)).size = ap (λ (x : Rule). x.size) e in
           let f = frame_of b ack c k r in
           let out : m ≡ onto f o = y ∙ ap₂ (λ (c : ℕ) (s : List ℕ). onto (c ∷ b.aps ∷ (s ++ r)) o) i j in
-          let len : n ≡ length f = p ∙ ap (λ (i : ℕ). 2 + i + length r) a ∙ sym (frame-length v) in
+          let len : n ≡ length f = omega (arith, p, ap length j, own-length c k (lent-secret w), frame-length v) in
           ap₂ (λ (i : ℕ) (s : List ℕ). framed (written i) d s) len out
           ∙ ap (λ (e : Board). framed (written (length f)) e (onto f o)) q
           ∙ sym (simp (le-ltb _ _ h, v, le-ltb longest_aps (length f) (omega (arith, frame-length v, size-most (kind_of c), s))))
-
--- ---- by the command that was matched
-
-pub asked : {c d : Command} {n : ℕ} → c ≡ d → n ≡ secret_size (rule_of (kind_of c)).secret → n ≡ secret_size (rule_of (kind_of d)).secret
-asked {c} {d} {n} e = subst (λ (x : Command). n ≡ secret_size (rule_of (kind_of x)).secret) e
-
-pub own-by : {c d : Command} (k : List ℕ) (l : Line) → d ≡ c → l.count ≡ (rule_of (kind_of d)).size → length l.octets ≡ 35
-    → lined l ≡ own_octets d k
-    → (l.count ≡ (rule_of (kind_of c)).size) × (length l.octets ≡ 35) × (lined l ≡ own_octets c k)
-own-by {c} {d} k l e p q r =
-    (p ∙ ap (λ (y : Command). (rule_of (kind_of y)).size) e, q, r ∙ ap (λ (y : Command). own_octets y k) e)

@@ -1,10 +1,11 @@
 -- The value of a tag is empty if the frame is refused or has no TLV of that tag, and only then.
 -- Assumes nothing.
-use Rattle.std.proofs.Common.{◌≡◌, ℕ, ◌+◌, not, eqb, List, length, drop, refl, ap, ◌∙◌, arith, length-drop, length-take, ne_eqb}
+use Rattle.std.proofs.Common.{Option, Some, None, Result, Ok, Err, ◌≡◌, ℕ, ◌+◌, not, eqb, List, length, drop, refl, ap, ◌∙◌, arith, length-drop, length-take, ne_eqb}
 use Rattle.answers.specs.Numbers.{ProtectionTold}
 use Rattle.settings.specs.Settings.{Settings}
 use Rattle.tlvs.proofs.Walks.{Inside, walked-inside, walked-tagged, none-tagged}
-use Rattle.tlvs.specs.declared.Walked.{Walked}
+use Rattle.tlvs.specs.declared.Value.{Value}
+use Rattle.tlvs.specs.declared.Ill.{Ill}
 use Rattle.tlvs.specs.declared.Wanted.TheVariants.{Tag}
 use Rattle.tlvs.specs.Looking.{walked, found, tagged}
 use Rattle.commands.specs.declared.Span.{Span}
@@ -13,22 +14,21 @@ use Rattle.commands.specs.Reading.{Judgement, refused, sound, judge}
 use Rattle.commands.specs.Parts.{octets_at, nowhere, tlvs_span, within, value_span}
 use Rattle.commands.specs.Missing.{is_there}
 use Rattle.commands.proofs.ReadBack.{tlvs-cut}
-use Rattle.tlvs.specs.declared.Walked.TheVariants as walks
 
 module _ (f : List ℕ) (tag : ℕ) where
-  within-empty : (q : Span) (x : Walked) → Inside (length (octets_at f q)) x
+  within-empty : (q : Span) (x : Result (Option Value) Ill) → Inside (length (octets_at f q)) x
       → eqb (length (octets_at f (within q.from x))) 0 ≡ not (found x)
-  within-empty q walks.Ill h = refl
-  within-empty q walks.Absent h = refl
-  within-empty q (walks.At i n) h =
-      ne_eqb _ _ (λ (e : length (octets_at f (within q.from (walks.At i n))) ≡ 0).
+  within-empty q (Err e) h = refl
+  within-empty q (Ok None) h = refl
+  within-empty q (Ok (Some v)) h =
+      ne_eqb _ _ (λ (e : length (octets_at f (within q.from (Ok (Some v)))) ≡ 0).
       omega (
         arith,
         h.0,
         h.1,
         e,
-        length-take n (drop (q.from + i) f),
-        length-drop (q.from + i) f,
+        length-take v.size (drop (q.from + v.start) f),
+        length-drop (q.from + v.start) f,
         length-take q.count (drop q.from f),
         length-drop q.from f,
       ))

@@ -1,6 +1,7 @@
 -- A command is known by what it tells, and so is what the reader answers: its contract leaves one answer.
 -- Assumes nothing.
-use Rattle.std.proofs.Common.{◌≡◌, ℕ, eqb, List, sym, refl, ap, ◌∙◌}
+use Rattle.answers.specs.declared.Refusal.{Refusal}
+use Rattle.std.proofs.Common.{◌≡◌, ℕ, eqb, List, sym, refl, ap, ◌∙◌, Result, Ok, Err}
 use Rattle.std.specs.Prelude.{if◌then◌else◌}
 use Rattle.octets.specs.Lists.{at}
 use Rattle.answers.proofs.One.{refusal_of, refusal-back}
@@ -8,12 +9,10 @@ use Rattle.commands.specs.declared.Command.{Command}
 use Rattle.commands.specs.declared.Command.TheVariants.{TransportKey, UpdateDevice, RemoveDevice, RequestKey, SwitchKey, Tunnel, VerifyKey, ConfirmKey, RelayDownstream, RelayUpstream}
 use Rattle.commands.specs.declared.Transported.{Transported}
 use Rattle.commands.specs.declared.Requested.{Requested}
-use Rattle.commands.specs.declared.Reading.{Reading}
 use Rattle.commands.specs.Numbers.{CommandTold, untyped, typed, told_command}
 use Rattle.commands.specs.Reading.{ReadTold, read, unread, told_reading}
 use Rattle.commands.specs.declared.Transported.TheVariants as transports
 use Rattle.commands.specs.declared.Requested.TheVariants as requests
-use Rattle.commands.specs.declared.Reading.TheVariants as readings
 
 unfoldable pub transport_back : ℕ → List ℕ → Transported
 transport_back t xs =
@@ -58,14 +57,14 @@ command-back RelayUpstream = refl
 pub command-one : (c d : Command) → told_command c ≡ told_command d → c ≡ d
 command-one c d e = sym (command-back c) ∙ ap command_back e ∙ command-back d
 
-reading_back : ReadTold → Reading
-reading_back (read c) = readings.Command (command_back c)
-reading_back (unread n) = readings.Refused (refusal_of n)
+reading_back : ReadTold → Result Command Refusal
+reading_back (read c) = Ok (command_back c)
+reading_back (unread n) = Err (refusal_of n)
 
-reading-back : (r : Reading) → reading_back (told_reading r) ≡ r
+reading-back : (r : Result Command Refusal) → reading_back (told_reading r) ≡ r
 unfolding reading_back
-reading-back (readings.Command c) = ap readings.Command (command-back c)
-reading-back (readings.Refused r) = ap readings.Refused (refusal-back r)
+reading-back (Ok c) = ap Ok (command-back c)
+reading-back (Err r) = ap Err (refusal-back r)
 
-pub reading-one : (r s : Reading) → told_reading r ≡ told_reading s → r ≡ s
+pub reading-one : (r s : Result Command Refusal) → told_reading r ≡ told_reading s → r ≡ s
 reading-one r s e = sym (reading-back r) ∙ ap reading_back e ∙ reading-back s

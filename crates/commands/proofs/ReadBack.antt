@@ -1,6 +1,6 @@
 -- Reading what was written gives the command and its parts back, under a protection that the list allows.
 -- Assumes nothing.
-use Rattle.std.proofs.Common.{◌≡◌, ℕ, ◌+◌, ◌^◌, ◌≤◌, Bool, true, false, not, eqb, ltb, List, [], ◌∷◌, ◌++◌, length, take, drop, sym, refl, ap, ◌∙◌, subst, ap₂, zero-add, arith, length-append, length-take, drop-drop, take_at, drop_at, ltb-false, ltb-true, le-ltb, eqb-true}
+use Rattle.std.proofs.Common.{Option, None, Result, Ok, Err, ◌≡◌, ℕ, ◌+◌, ◌^◌, ◌≤◌, Bool, true, false, not, eqb, ltb, List, [], ◌∷◌, ◌++◌, length, take, drop, sym, refl, ap, ◌∙◌, subst, ap₂, zero-add, arith, length-append, length-take, drop-drop, take_at, drop_at, ltb-false, ltb-true, le-ltb, eqb-true, Some}
 use borrow.Author.Tests.{not-false}
 use Rattle.octets.proofs.Choices.{both-parts, choose}
 use Rattle.octets.proofs.Numbers.{least-spelled}
@@ -14,7 +14,8 @@ use Rattle.frames.specs.Reading.{headed, read_header, reading_command}
 use Rattle.board.specs.declared.Board.{Board}
 use Rattle.board.specs.Sending.{Framed, framed}
 use Rattle.tlvs.proofs.Walks.{Inside, walked-inside}
-use Rattle.tlvs.specs.declared.Walked.{Walked}
+use Rattle.tlvs.specs.declared.Value.{Value}
+use Rattle.tlvs.specs.declared.Ill.{Ill}
 use Rattle.tlvs.specs.declared.Wanted.TheVariants.{Tag}
 use Rattle.tlvs.specs.Looking.{walked}
 use Rattle.commands.specs.declared.Allowed.{Allowed}
@@ -22,7 +23,6 @@ use Rattle.commands.specs.declared.Allowed.TheVariants.{Clear, Only, ClearOr}
 use Rattle.commands.specs.declared.Command.{Command}
 use Rattle.commands.specs.declared.Command.TheVariants.{TransportKey, UpdateDevice, RemoveDevice, RequestKey, SwitchKey, Tunnel, VerifyKey, ConfirmKey, RelayDownstream, RelayUpstream}
 use Rattle.commands.specs.declared.Kind.{Kind}
-use Rattle.commands.specs.declared.Listed.TheVariants.{Is}
 use Rattle.commands.specs.declared.Span.{Span}
 use Rattle.commands.specs.declared.Secret.{Secret}
 use Rattle.commands.specs.declared.Secret.TheVariants.{NoSecret, Key, Hash}
@@ -41,7 +41,6 @@ use Rattle.commands.proofs.Laid.{own-length, whole-secret, whole-rest}
 use Rattle.commands.specs.declared.Kind.TheVariants as kinds
 use Rattle.commands.specs.declared.Transported.TheVariants as transports
 use Rattle.commands.specs.declared.Requested.TheVariants as requests
-use Rattle.tlvs.specs.declared.Walked.TheVariants as walks
 
 -- ---- a protection that the list allows is one that the reader knows
 
@@ -88,7 +87,7 @@ command-header f false e h = simp (le-ltb (length f) 1 (omega arith), e, le-ltb 
 
 -- ---- identifier and type
 
-listed-own : (c : Command) (k r : List ℕ) → listed (at (own_octets c k ++ r) 0) (at (own_octets c k ++ r) 1) ≡ Is (kind_of c)
+listed-own : (c : Command) (k r : List ℕ) → listed (at (own_octets c k ++ r) 0) (at (own_octets c k ++ r) 1) ≡ Some (kind_of c)
 unfolding own_octets listed transport_of request_of
 listed-own (TransportKey (transports.Network q d s)) k r = refl
 listed-own (TransportKey (transports.TrustCentre d s)) k r = refl
@@ -222,13 +221,13 @@ module _ (f k : List ℕ) where
 -- ---- what follows
 
 -- a part of a part
-value-cut : (f : List ℕ) (q : Span) (x : Walked) → Inside (length (octets_at f q)) x
+value-cut : (f : List ℕ) (q : Span) (x : Result (Option Value) Ill) → Inside (length (octets_at f q)) x
     → octets_at f (within q.from x) ≡ octets_at (octets_at f q) (within 0 x)
-value-cut f q walks.Ill h = refl
-value-cut f q walks.Absent h = refl
-value-cut f q (walks.At i n) h =
-    sym (part-within f q.from q.count i n (omega (arith, h.0, length-take q.count (drop q.from f))))
-    ∙ ap (λ (j : ℕ). take n (drop j (octets_at f q))) (sym (zero-add i))
+value-cut f q (Err e) h = refl
+value-cut f q (Ok None) h = refl
+value-cut f q (Ok (Some v)) h =
+    sym (part-within f q.from q.count v.start v.size (omega (arith, h.0, length-take q.count (drop q.from f))))
+    ∙ ap (λ (j : ℕ). take v.size (drop j (octets_at f q))) (sym (zero-add v.start))
 
 module _ (f : List ℕ) (i : ℕ) (r : List ℕ) (e : drop i f ≡ r) where
   rest-cut : octets_at f (rest_span (length f) i) ≡ r

@@ -1,7 +1,7 @@
 -- Writing what was read gives the same frame, where its control octet is one that the writer uses and its counter is the
 -- board's.
 -- Assumes nothing.
-use Rattle.std.proofs.Common.{◌≡◌, ℕ, ◌+◌, ◌-◌, ◌*◌, ◌/◌, ◌%◌, ◌≤◌, Bool, true, eqb, List, [], ◌∷◌, ◌++◌, length, take, drop, sym, refl, ap, ◌∙◌, subst, ap₂, arith, length-drop, take-append-drop, drop_of_length-le, length-take-le, get_or-drop, get_or-take, le-ltb, eq-eqb, eqb-true}
+use Rattle.std.proofs.Common.{◌≡◌, ℕ, ◌+◌, ◌-◌, ◌*◌, ◌/◌, ◌%◌, ◌≤◌, Bool, true, eqb, List, [], ◌∷◌, ◌++◌, length, take, drop, sym, refl, ap, ◌∙◌, subst, ap₂, arith, length-drop, take-append-drop, drop_of_length-le, length-take-le, get_or-drop, get_or-take, le-ltb, eq-eqb, eqb-true, Option, Some, None}
 use Rattle.octets.proofs.AllOctets.{tail-octets, tab-octets}
 use Rattle.octets.proofs.Choices.{choose}
 use Rattle.octets.proofs.Tabs.{length-tab, tab-ext, tab-add, tab-at}
@@ -15,8 +15,6 @@ use Rattle.board.specs.Sending.{framed}
 use Rattle.commands.specs.declared.Command.{Command}
 use Rattle.commands.specs.declared.Kind.{Kind}
 use Rattle.commands.specs.declared.Kind.TheVariants.{Transport1, Transport4, Transport2, Transport3, Update, Remove, Request2, Request4, Switch, Tunnel, Verify, Confirm, Down, Up}
-use Rattle.commands.specs.declared.Listed.{Listed}
-use Rattle.commands.specs.declared.Listed.TheVariants.{Reserved, Is}
 use Rattle.commands.specs.declared.Secret.{Secret}
 use Rattle.commands.specs.declared.Secret.TheVariants.{NoSecret, Key, Hash}
 use Rattle.commands.specs.declared.Rest.{Rest}
@@ -61,21 +59,21 @@ Named Confirm i t = i ≡ 0x10
 Named Down i t = i ≡ 0x11
 Named Up i t = i ≡ 0x12
 
-kind_in : Listed → Kind
-kind_in Reserved = Up
-kind_in (Is k) = k
+kind_in : Option Kind → Kind
+kind_in None = Up
+kind_in (Some k) = k
 
 module _ (i t : ℕ) (k : Kind) where
   -- a row of the list
-  is : (j : Kind) → Named j i t → Is j ≡ Is k → Named k i t
+  is : (j : Kind) → Named j i t → Some j ≡ Some k → Named k i t
   unfolding kind_in
   is j n e = subst (λ (x : Kind). Named x i t) (ap kind_in e) n
 
-  none : Reserved ≡ Is k → Named k i t
+  none : None ≡ Some k → Named k i t
   none e = let z : ◌≡◌ {A = ℕ} 0 1 = cc in absurd (omega arith)
 
-  abbrev Names : Listed → Type 0
-  Names l = l ≡ Is k → Named k i t
+  abbrev Names : Option Kind → Type 0
+  Names l = l ≡ Some k → Named k i t
 
   transport-named : i ≡ 0x05 → Names (transport_of t)
   unfolding transport_of

@@ -2,10 +2,11 @@
 -- for alone and handed back as that part of the caller's own frame (empty if refused or missing)." A tag's value is empty then and
 -- only then (Missing), since no value is empty (document 02 (iv)); all TLVs together are empty where a command comes without any, too.
 -- Assumes nothing.
-use Rattle.std.specs.Prelude.{ℕ, ◌+◌, ◌-◌, List}
+use Rattle.std.specs.Prelude.{ℕ, ◌+◌, ◌-◌, List, Option, Some, None, Result, Ok, Err}
 use Rattle.std.specs.Borrow.{Bor}
 use Rattle.octets.specs.Parts.{Part, octets_from, cut}
-use Rattle.tlvs.specs.declared.Walked.{Walked}
+use Rattle.tlvs.specs.declared.Value.{Value}
+use Rattle.tlvs.specs.declared.Ill.{Ill}
 use Rattle.tlvs.specs.declared.Wanted.TheVariants.{Tag}
 use Rattle.tlvs.specs.Looking.{walked}
 use Rattle.commands.specs.declared.Secret.{Secret}
@@ -15,7 +16,6 @@ use Rattle.commands.specs.declared.Rest.TheVariants.{End, Tlvs, Relay, Inner}
 use Rattle.commands.specs.declared.Span.{Span}
 use Rattle.commands.specs.Table.{rule_of, secret_size}
 use Rattle.commands.specs.Reading.{Judgement, refused, sound}
-use Rattle.tlvs.specs.declared.Walked.TheVariants as walks
 
 -- ---- a part of the frame
 
@@ -78,10 +78,10 @@ inner_span n (refused m) = nowhere
 inner_span n (sound k) = inner_in (rule_of k).rest (rest_span n (2 + (rule_of k).size))
 
 -- what was found in the TLVs that stand at place i
-abbrev pub within : ℕ → Walked → Span
-within i walks.Ill = nowhere
-within i walks.Absent = nowhere
-within i (walks.At j n) = span (i + j) n
+abbrev pub within : ℕ → Result (Option Value) Ill → Span
+within i (Err e) = nowhere
+within i (Ok None) = nowhere
+within i (Ok (Some v)) = span (i + v.start) v.size
 
 unfoldable pub value_span : List ℕ → ℕ → Span → Span
 value_span f tag p = within p.from (walked (Tag tag) (octets_at f p))

@@ -3,7 +3,9 @@
 -- identifier), then 12. Status, flag and other type fields are handed on unjudged. Each command is an answer of its own kind
 -- with its fields." The places of the fields are those of source document 000, 4.4.11, behind a header of 2 octets.
 -- Assumes nothing.
-use Rattle.std.specs.Prelude.{ℕ, ◌+◌, not, List, [], ◌∷◌, length, drop, nat_lt}
+use Rattle.answers.specs.declared.Refusal.{Refusal}
+use Rattle.commands.specs.declared.Command.{Command}
+use Rattle.std.specs.Prelude.{ℕ, ◌+◌, not, List, [], ◌∷◌, length, drop, nat_lt, Option, Some, None, Result, Ok, Err}
 use Rattle.std.specs.Prelude.{if◌then◌else◌}
 use Rattle.octets.specs.Lists.{at}
 use Rattle.octets.specs.Least.{number_at}
@@ -12,14 +14,10 @@ use Rattle.settings.specs.Settings.{Settings, longest_aps}
 use Rattle.frames.specs.Reading.{PlainReading, headed, reading_command}
 use Rattle.commands.specs.declared.Kind.{Kind}
 use Rattle.commands.specs.declared.Kind.TheVariants.{Transport1, Transport4, Transport2, Transport3, Update, Remove, Request2, Request4, Switch, Tunnel, Verify, Confirm, Down, Up}
-use Rattle.commands.specs.declared.Listed.{Listed}
-use Rattle.commands.specs.declared.Listed.TheVariants.{Reserved, Is}
-use Rattle.commands.specs.declared.Reading.{Reading}
 use Rattle.commands.specs.Kinds.{listed}
 use Rattle.commands.specs.Table.{rule_of, fits, known, allows}
 use Rattle.commands.specs.Numbers.{CommandTold, untyped, typed, told_command}
 use Rattle.frames.specs.Reading as frames
-use Rattle.commands.specs.declared.Reading.TheVariants as readings
 
 -- ---- the judgement
 
@@ -37,9 +35,9 @@ judge_kind z f p k =
     else sound k))
 
 -- 11 for identifier and type
-unfoldable pub judge_listed : Settings → List ℕ → ProtectionTold → Listed → Judgement
-judge_listed z f p Reserved = refused 11
-judge_listed z f p (Is k) = judge_kind z f p k
+unfoldable pub judge_listed : Settings → List ℕ → ProtectionTold → Option Kind → Judgement
+judge_listed z f p None = refused 11
+judge_listed z f p (Some k) = judge_kind z f p k
 
 -- 3, 4, 3, 4 for the header, which a command has of 2 octets; what is past the end reads as 0, which is reserved
 unfoldable pub judge_header : Settings → List ℕ → ProtectionTold → PlainReading → Judgement
@@ -79,9 +77,9 @@ pub data ReadTold : Type 0 where
   read : CommandTold → ReadTold
   unread : ℕ → ReadTold
 
-abbrev pub told_reading : Reading → ReadTold
-told_reading (readings.Command c) = read (told_command c)
-told_reading (readings.Refused r) = unread (number_of r)
+abbrev pub told_reading : Result Command Refusal → ReadTold
+told_reading (Ok c) = read (told_command c)
+told_reading (Err r) = unread (number_of r)
 
 abbrev pub answered : List ℕ → Judgement → ReadTold
 answered f (refused n) = unread n

@@ -2,14 +2,17 @@
 // written.
 #![tactic(auto)]
 
+ghost use Rattle.std.specs.Prelude.{◌≡◌, ◌+◌, ◌≤◌, length};
+ghost use Rattle.octets.specs.Parts.{seen};
+ghost use Rattle.commands.specs.Parts.{cut_at, rest_span};
+
 mod kinds;
+mod line;
 mod parts;
 mod reader;
 mod table;
 mod writer;
 
-use answers::{Refusal, Written};
-use board::Board;
 pub use parts::{hash_of, inner_of, key_of, tlvs_of, value_of};
 pub use reader::read_command;
 pub use writer::write_command;
@@ -56,20 +59,6 @@ pub enum Requested {
     TrustCentre,
 }
 
-// What the reader answers.
-#[derive(Clone, Copy)]
-pub enum Reading {
-    Command(Command),
-    Refused(Refusal),
-}
-
-// What the writer answers, and the board that it leaves.
-#[derive(Clone, Copy)]
-pub struct Wrote {
-    pub answer: Written,
-    pub board: Board,
-}
-
 // A command without its numbers: a row of 01's list, by identifier and inner type.
 #[derive(Clone, Copy)]
 pub(crate) enum Kind {
@@ -87,12 +76,6 @@ pub(crate) enum Kind {
     Confirm,
     Down,
     Up,
-}
-
-#[derive(Clone, Copy)]
-enum Listed {
-    Reserved,
-    Is(Kind),
 }
 
 // The sixteen octets that a command may have.
@@ -129,11 +112,13 @@ pub(crate) struct Rule {
     pub under: Allowed,
 }
 
-// A frame judged.
+// A part that is asked for alone.
 #[derive(Clone, Copy)]
-enum Judged {
-    Refused(Refusal),
-    Sound(Kind),
+pub(crate) enum Asked {
+    Key,
+    Hash,
+    Tlvs,
+    Inner,
 }
 
 // Where a part stands in a frame.
@@ -143,9 +128,24 @@ pub struct Span {
     pub count: usize,
 }
 
-// Octets put one behind another, the first `count` of them.
-#[derive(Clone, Copy)]
-struct Line {
-    octets: [u8; 35],
-    count: usize,
+impl Span {
+    pub(crate) const NOWHERE: Self = Span { from: 0, count: 0 };
+
+    // The octets from `from` to the end of a frame of n octets.
+    #[tactic(auto, unfolding(crate::specs::Parts::rest_span))]
+    pub(crate) fn rest(n: usize, from: usize) -> Self
+        ensures { result ≡ rest_span n from }
+    {
+        Span {
+            from,
+            count: n.saturating_sub(from),
+        }
+    }
+
+    pub(crate) fn of(self, f: &[u8]) -> &[u8]
+        requires { self.from + self.count ≤ length f.now }
+        ensures { seen result ≡ cut_at f.entry self }
+    {
+        &f[self.from..self.from + self.count]
+    }
 }

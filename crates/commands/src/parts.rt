@@ -4,201 +4,91 @@ ghost use Rattle.std.specs.Prelude.{◌≡◌, ◌+◌, ◌≤◌, length};
 ghost use Rattle.octets.specs.Parts.{seen};
 ghost use Rattle.settings.specs.Settings.{ours};
 ghost use Rattle.answers.specs.Numbers.{protection_of};
-ghost use Rattle.commands.specs.Reading.{judge};
-ghost use Rattle.commands.specs.Code.{told_judged};
-ghost use Rattle.commands.specs.Parts.{cut_at, key_in, hash_in, key_span, hash_span, rest_span, tlvs_in, inner_in, tlvs_span, inner_span, value_span};
-ghost use Rattle.commands.specs.Parts.{nowhere};
+ghost use Rattle.commands.specs.Reading.{judge, sound};
+ghost use Rattle.commands.specs.Code.{part_span};
+ghost use Rattle.commands.specs.Parts.{cut_at, key_span, hash_span, tlvs_span, inner_span, value_span};
 
-use crate::{Judged, Rest, Secret, Span, reader, table};
-use answers::Guard;
-use tlvs::Walked;
+use crate::{Asked, Kind, Rest, Secret, Span, reader, table};
 
-fn nowhere() -> Span
-    ensures { result ≡ nowhere }
+// Where the part asked for stands in a frame of n octets of that kind.
+#[tactic(auto, unfolding(crate::specs::Parts::key_in, crate::specs::Parts::hash_in, crate::specs::Parts::tlvs_in, crate::specs::Parts::inner_in, crate::specs::Parts::key_span, crate::specs::Parts::hash_span, crate::specs::Parts::tlvs_span, crate::specs::Parts::inner_span))]
+fn span_in(kind: Kind, asked: Asked, n: usize) -> Span
+    ensures { result ≡ part_span asked n (sound kind) }
 {
-    Span { from: 0, count: 0 }
-}
-
-fn part_of(f: &[u8], span: Span) -> &[u8]
-    requires { span.from + span.count ≤ length f.now }
-    ensures { seen result ≡ cut_at f.entry span }
-{
-    let a = span.from;
-    let e = a + span.count;
-    &f[a..e]
-}
-
-fn key_in(s: Secret) -> Span
-    ensures { result ≡ key_in s }
-{
-    match s {
-        Secret::NoSecret => nowhere(),
-        Secret::Key => Span { from: 4, count: 16 },
-        Secret::Hash => nowhere(),
-    }
-}
-
-fn hash_in(s: Secret) -> Span
-    ensures { result ≡ hash_in s }
-{
-    match s {
-        Secret::NoSecret => nowhere(),
-        Secret::Key => nowhere(),
-        Secret::Hash => Span {
+    let rule = table::rule_of(kind);
+    match (asked, rule.secret, rule.rest) {
+        (Asked::Key, Secret::Key, _) => Span { from: 4, count: 16 },
+        (Asked::Hash, Secret::Hash, _) => Span {
             from: 12,
             count: 16,
         },
+        (Asked::Tlvs, _, Rest::Tlvs | Rest::Relay) | (Asked::Inner, _, Rest::Inner) => Span::rest(
+            n,
+            2 + rule.size,
+        ),
+        _ => Span::NOWHERE,
     }
 }
 
-fn key_span(v: Judged) -> Span
-    ensures { result ≡ key_span (told_judged v) }
+// Where it stands in that frame: nowhere if the frame is refused or has none.
+fn span_of(frame: &[u8], protection: Option<u8>, asked: Asked) -> Span
+    ensures span { result ≡ part_span asked (length frame.now) (judge ours frame.now (protection_of protection)) }
+    ensures within { result.from + result.count ≤ length frame.now }
 {
-    match v {
-        Judged::Refused(_) => nowhere(),
-        Judged::Sound(k) => {
-            let rule = table::rule_of(k);
-            let s = rule.secret;
-            key_in(s)
-        }
-    }
-}
-
-fn hash_span(v: Judged) -> Span
-    ensures { result ≡ hash_span (told_judged v) }
-{
-    match v {
-        Judged::Refused(_) => nowhere(),
-        Judged::Sound(k) => {
-            let rule = table::rule_of(k);
-            let s = rule.secret;
-            hash_in(s)
-        }
-    }
-}
-
-// The octets from `from` to the end of a frame of n octets.
-fn rest_span(n: usize, from: usize) -> Span
-    ensures { result ≡ rest_span n from }
-{
-    if n < from {
-        return Span { from, count: 0 };
-    }
-    Span {
-        from,
-        count: n - from,
-    }
-}
-
-fn tlvs_in(rest: Rest, span: Span) -> Span
-    ensures { result ≡ tlvs_in rest span }
-{
-    match rest {
-        Rest::End => nowhere(),
-        Rest::Tlvs => span,
-        Rest::Relay => span,
-        Rest::Inner => nowhere(),
-    }
-}
-
-fn inner_in(rest: Rest, span: Span) -> Span
-    ensures { result ≡ inner_in rest span }
-{
-    match rest {
-        Rest::End => nowhere(),
-        Rest::Tlvs => nowhere(),
-        Rest::Relay => nowhere(),
-        Rest::Inner => span,
-    }
-}
-
-fn tlvs_span(n: usize, v: Judged) -> Span
-    ensures { result ≡ tlvs_span n (told_judged v) }
-{
-    match v {
-        Judged::Refused(_) => nowhere(),
-        Judged::Sound(k) => {
-            let rule = table::rule_of(k);
-            let rest = rule.rest;
-            tlvs_in(rest, rest_span(n, 2 + rule.size))
-        }
-    }
-}
-
-fn inner_span(n: usize, v: Judged) -> Span
-    ensures { result ≡ inner_span n (told_judged v) }
-{
-    match v {
-        Judged::Refused(_) => nowhere(),
-        Judged::Sound(k) => {
-            let rule = table::rule_of(k);
-            let rest = rule.rest;
-            inner_in(rest, rest_span(n, 2 + rule.size))
-        }
+    match reader::judge_frame(frame, protection) {
+        Ok(kind) => span_in(kind, asked, frame.len()),
+        Err(_) => Span::NOWHERE,
     }
 }
 
 // The value of the first TLV of that tag, where the TLVs stand in that span.
-fn value_span(f: &[u8], tag: u8, span: Span) -> Span
-    requires { span.from + span.count ≤ length f.now }
-    ensures { result ≡ value_span f.now tag span }
+#[tactic(auto, unfolding(crate::specs::Parts::value_span))]
+fn value_span(f: &[u8], tag: u8, tlvs: Span) -> Span
+    requires { tlvs.from + tlvs.count ≤ length f.now }
+    ensures span { result ≡ value_span f.now tag tlvs }
+    ensures within { result.from + result.count ≤ length f.now }
 {
-    let a = span.from;
-    let e = a + span.count;
-    match tlvs::first_of(&f[a..e], tag) {
-        Walked::Ill => nowhere(),
-        Walked::Absent => nowhere(),
-        Walked::At(i, n) => Span {
-            from: a + i,
-            count: n,
+    match tlvs::first_of(tlvs.of(f), tag) {
+        Ok(Some(value)) => Span {
+            from: tlvs.from + value.start,
+            count: value.size,
         },
+        Ok(None) | Err(_) => Span::NOWHERE,
     }
 }
 
 // The key of a Transport-Key.
-pub fn key_of(frame: &[u8], protection: Guard) -> &[u8]
+pub fn key_of(frame: &[u8], protection: Option<u8>) -> &[u8]
     ensures { seen result ≡ cut_at frame.entry (key_span (judge ours frame.now (protection_of protection))) }
 {
-    part_of(frame, key_span(reader::judge_frame(frame, protection)))
+    span_of(frame, protection, Asked::Key).of(frame)
 }
 
 // The hash of a Verify-Key.
-pub fn hash_of(frame: &[u8], protection: Guard) -> &[u8]
+pub fn hash_of(frame: &[u8], protection: Option<u8>) -> &[u8]
     ensures { seen result ≡ cut_at frame.entry (hash_span (judge ours frame.now (protection_of protection))) }
 {
-    part_of(frame, hash_span(reader::judge_frame(frame, protection)))
+    span_of(frame, protection, Asked::Hash).of(frame)
 }
 
 // The frame inside a Tunnel.
-pub fn inner_of(frame: &[u8], protection: Guard) -> &[u8]
+pub fn inner_of(frame: &[u8], protection: Option<u8>) -> &[u8]
     ensures { seen result ≡ cut_at frame.entry (inner_span (length frame.now) (judge ours frame.now (protection_of protection))) }
 {
-    part_of(
-        frame,
-        inner_span(frame.len(), reader::judge_frame(frame, protection)),
-    )
+    span_of(frame, protection, Asked::Inner).of(frame)
 }
 
 // All TLVs of a command.
-pub fn tlvs_of(frame: &[u8], protection: Guard) -> &[u8]
+pub fn tlvs_of(frame: &[u8], protection: Option<u8>) -> &[u8]
     ensures { seen result ≡ cut_at frame.entry (tlvs_span (length frame.now) (judge ours frame.now (protection_of protection))) }
 {
-    part_of(
-        frame,
-        tlvs_span(frame.len(), reader::judge_frame(frame, protection)),
-    )
+    span_of(frame, protection, Asked::Tlvs).of(frame)
 }
 
 // The value of the first TLV of that tag.
-pub fn value_of(frame: &[u8], protection: Guard, tag: u8) -> &[u8]
+pub fn value_of(frame: &[u8], protection: Option<u8>, tag: u8) -> &[u8]
     ensures { seen result ≡ cut_at frame.entry (value_span frame.now tag (tlvs_span (length frame.now) (judge ours frame.now (protection_of protection)))) }
 {
-    part_of(
-        frame,
-        value_span(
-            frame,
-            tag,
-            tlvs_span(frame.len(), reader::judge_frame(frame, protection)),
-        ),
-    )
+    let tlvs = span_of(frame, protection, Asked::Tlvs);
+    value_span(frame, tag, tlvs).of(frame)
 }

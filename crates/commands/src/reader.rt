@@ -10,53 +10,46 @@ ghost use Rattle.octets.specs.Lists.{at};
 ghost use Rattle.octets.specs.Least.{number_at};
 ghost use Rattle.commands.specs.declared.Transported.{Transported};
 
-use crate::{Command, Judged, Kind, Listed, Reading, Requested, Transported, kinds, table};
-use answers::{Guard, Refusal};
-use frames::PlainRead;
+use crate::{Command, Kind, Requested, Transported, kinds, table};
+use answers::Refusal;
 
 // 11 and 12 of a kind that the list has.
-fn judge_kind(f: &[u8], p: Guard, k: Kind) -> Judged
+#[tactic(auto, unfolding(crate::specs::Reading::judge_kind))]
+fn judge_kind(f: &[u8], p: Option<u8>, k: Kind) -> Result<Kind, Refusal>
     ensures { told_judged result ≡ judge_kind ours f.now (protection_of p) k }
 {
     let rule = table::rule_of(k);
-    let end = 2 + rule.size;
-    if f.len() < end {
-        return Judged::Refused(Refusal::Command);
+    let rest = f.get(2 + rule.size..).ok_or(Refusal::Command)?;
+    if !table::fits_rest(rule.rest, rest) {
+        return Err(Refusal::Command);
     }
-    let rest = rule.rest;
-    if !table::fits_rest(rest, &f[end..]) {
-        return Judged::Refused(Refusal::Command);
+    if !table::is_allowed(rule.under, p) {
+        return Err(Refusal::Protection);
     }
-    let under = rule.under;
-    if !table::is_allowed(under, p) {
-        return Judged::Refused(Refusal::Protection);
-    }
-    Judged::Sound(k)
+    Ok(k)
 }
 
 // The identifier; a frame that ends before it, or before its type, has 0 there, which is reserved.
-fn judge_listed(f: &[u8], p: Guard) -> Judged
+#[tactic(auto, unfolding(crate::specs::Reading::judge_listed))]
+fn judge_listed(f: &[u8], p: Option<u8>) -> Result<Kind, Refusal>
     ensures { told_judged result ≡ judge_listed ours f.now (protection_of p) (listed (at f.now 2) (at f.now 3)) }
 {
-    match kinds::find_kind(octets::octet(f, 2), octets::octet(f, 3)) {
-        Listed::Reserved => Judged::Refused(Refusal::Command),
-        Listed::Is(k) => judge_kind(f, p, k),
-    }
+    let kind = kinds::find_kind(octets::octet(f, 2), octets::octet(f, 3)).ok_or(Refusal::Command)?;
+    judge_kind(f, p, kind)
 }
 
-pub(crate) fn judge_frame(f: &[u8], p: Guard) -> Judged
+#[tactic(auto, unfolding(crate::specs::Reading::judge, crate::specs::Reading::judge_header))]
+pub(crate) fn judge_frame(f: &[u8], p: Option<u8>) -> Result<Kind, Refusal>
     ensures { told_judged result ≡ judge ours f.now (protection_of p) }
 {
     if !table::is_known(p) {
-        return Judged::Refused(Refusal::Argument);
+        return Err(Refusal::Argument);
     }
     if settings::LONGEST_APS < f.len() {
-        return Judged::Refused(Refusal::Long);
+        return Err(Refusal::Long);
     }
-    match frames::read_command(f) {
-        PlainRead::Refused(r) => Judged::Refused(r),
-        PlainRead::Header(_) => judge_listed(f, p),
-    }
+    frames::read_command(f)?;
+    judge_listed(f, p)
 }
 
 fn network_key(f: &[u8]) -> Transported
@@ -70,6 +63,7 @@ fn network_key(f: &[u8]) -> Transported
 }
 
 // The command of that kind, with its numbers; 0 for what f does not have.
+#[tactic(auto, unfolding(crate::specs::Reading::command_in))]
 fn fields_of(f: &[u8], k: Kind) -> Command
     ensures { told_command result ≡ command_in f.now k }
 {
@@ -109,11 +103,10 @@ fn fields_of(f: &[u8], k: Kind) -> Command
 }
 
 // Reads the command of a plain APS frame that came under that protection.
-pub fn read_command(frame: &[u8], protection: Guard) -> Reading
+#[tactic(auto, unfolding(crate::specs::Reading::read_command))]
+pub fn read_command(frame: &[u8], protection: Option<u8>) -> Result<Command, Refusal>
     ensures { told_reading result ≡ read_command ours frame.now (protection_of protection) }
 {
-    match judge_frame(frame, protection) {
-        Judged::Refused(r) => Reading::Refused(r),
-        Judged::Sound(k) => Reading::Command(fields_of(frame, k)),
-    }
+    let kind = judge_frame(frame, protection)?;
+    Ok(fields_of(frame, kind))
 }

@@ -1,12 +1,11 @@
 // Document 01's list of commands.
-ghost use Rattle.std.specs.Prelude.{◌≡◌};
+ghost use Rattle.std.specs.Prelude.{◌≡◌, ◌≤◌};
 ghost use Rattle.settings.specs.Settings.{ours};
 ghost use Rattle.answers.specs.Numbers.{protection_of};
 ghost use Rattle.commands.specs.Table.{rule_of, known, allows, fits, secret_size};
 ghost use Rattle.commands.specs.Table.{row};
 
 use crate::{Allowed, Kind, Rest, Rule, Secret};
-use answers::Guard;
 
 // The octets of the least frame inside a Tunnel: header, auxiliary header, one octet and the tag.
 const LEAST_INNER: usize = 2 + settings::APS_AUX + 1 + settings::TAG;
@@ -22,8 +21,10 @@ fn row(size: usize, secret: Secret, rest: Rest, under: Allowed) -> Rule
     }
 }
 
+#[tactic(auto, unfolding(crate::specs::Table::rule_of))]
 pub(crate) fn rule_of(k: Kind) -> Rule
-    ensures { result ≡ rule_of k }
+    ensures row { result ≡ rule_of k }
+    ensures fits { result.size ≤ 35 }
 {
     match k {
         Kind::Transport1 => row(35, Secret::Key, Rest::End, Allowed::Only(2)),
@@ -43,46 +44,31 @@ pub(crate) fn rule_of(k: Kind) -> Rule
     }
 }
 
-pub(crate) fn is_known(p: Guard) -> bool
+#[tactic(auto, unfolding(crate::specs::Table::known))]
+pub(crate) fn is_known(p: Option<u8>) -> bool
     ensures { result ≡ known (protection_of p) }
 {
-    match p {
-        Guard::Clear => true,
-        Guard::Under(n) => match n {
-            0 => true,
-            1 => false,
-            2 => true,
-            3 => true,
-            4..=255 => false,
-        },
-    }
+    matches!(p, None | Some(0 | 2 | 3))
 }
 
-pub(crate) fn is_allowed(u: Allowed, p: Guard) -> bool
+#[tactic(auto, unfolding(crate::specs::Table::allows))]
+pub(crate) fn is_allowed(u: Allowed, p: Option<u8>) -> bool
     ensures { result ≡ allows u (protection_of p) }
 {
     match u {
-        Allowed::Clear => match p {
-            Guard::Clear => true,
-            Guard::Under(_) => false,
-        },
-        Allowed::Only(n) => match p {
-            Guard::Clear => false,
-            Guard::Under(m) => m == n,
-        },
-        Allowed::ClearOr(n) => match p {
-            Guard::Clear => true,
-            Guard::Under(m) => m == n,
-        },
+        Allowed::Clear => p.is_none(),
+        Allowed::Only(n) => p == Some(n),
+        Allowed::ClearOr(n) => p.is_none() || p == Some(n),
     }
 }
 
 // Whether s may follow a command's own octets.
+#[tactic(auto, unfolding(crate::specs::Table::fits))]
 pub(crate) fn fits_rest(rest: Rest, s: &[u8]) -> bool
     ensures { result ≡ fits ours rest s.now }
 {
     match rest {
-        Rest::End => s.len() == 0,
+        Rest::End => s.is_empty(),
         Rest::Tlvs => tlvs::fills(s),
         Rest::Relay => tlvs::relays(s),
         Rest::Inner => LEAST_INNER <= s.len() && frames::may_tunnel(s),
@@ -94,7 +80,6 @@ pub(crate) fn secret_size(s: Secret) -> usize
 {
     match s {
         Secret::NoSecret => 0,
-        Secret::Key => 16,
-        Secret::Hash => 16,
+        Secret::Key | Secret::Hash => 16,
     }
 }

@@ -2,23 +2,22 @@
 -- for the control field, 4, 3 up to the security control, 5 for it, 3 for the rest and the tag, 5 for the sender"; "Sealing: .. 3,
 -- 4, 3", where 4 is also "security bit already set". Each is read in the same way at both layers.
 -- Assumes nothing.
-use Rattle.std.specs.Prelude.{Bool, true, false, not, List, ℕ, ◌+◌, length, ◌==◌, nat_lt, nat_le}
+use Rattle.std.specs.Prelude.{Bool, true, false, not, List, ℕ, ◌+◌, length, ◌==◌, nat_lt, nat_le, Result, Ok, Err}
 use Rattle.settings.specs.Settings.{Settings}
 use Rattle.octets.specs.Addresses.{no_address}
 use Rattle.std.specs.Prelude.{if◌then◌else◌}
 use Rattle.octets.specs.Choice.{both}
 use Rattle.octets.specs.Lists.{at}
+use Rattle.answers.specs.declared.Refusal.{Refusal}
 use Rattle.answers.specs.Numbers.{number_of}
 use Rattle.frames.specs.declared.Layer.{Layer}
 use Rattle.frames.specs.declared.Layer.TheVariants.{Aps}
 use Rattle.frames.specs.declared.Secured.{Secured}
 use Rattle.frames.specs.declared.Read.{Read}
-use Rattle.frames.specs.declared.PlainRead.{PlainRead}
 use Rattle.frames.specs.Security.{aux_length, counter_of, sender_of, sequence_of}
 use Rattle.frames.specs.Aps.{aps_type}
 use Rattle.frames.specs.Layers.{control_octets, control_of, form_of, secured_bit, header_of, suits, given_to}
 use Rattle.frames.specs.declared.Read.TheVariants as reads
-use Rattle.frames.specs.declared.PlainRead.TheVariants as plains
 
 -- ---- the header, for opening, for sealing and for the command reader
 
@@ -42,10 +41,10 @@ pub data Reading : Type 0 where
   plain : ℕ → Reading
   secured : Secured → Reading
 
-abbrev pub told_read : Read → Reading
-told_read (reads.Refused r) = refused (number_of r)
-told_read (reads.Plain h) = plain h
-told_read (reads.Secured s) = secured s
+abbrev pub told_read : Result Read Refusal → Reading
+told_read (Ok (reads.Plain h)) = plain h
+told_read (Ok (reads.Secured s)) = secured s
+told_read (Err r) = refused (number_of r)
 
 -- what the auxiliary header behind h octets of header announces
 unfoldable pub announced : List ℕ → ℕ → ℕ → Secured
@@ -87,9 +86,9 @@ pub data PlainReading : Type 0 where
   unread : ℕ → PlainReading
   headed : ℕ → PlainReading
 
-abbrev pub told_plain : PlainRead → PlainReading
-told_plain (plains.Refused r) = unread (number_of r)
-told_plain (plains.Header h) = headed h
+abbrev pub told_plain : Result ℕ Refusal → PlainReading
+told_plain (Err r) = unread (number_of r)
+told_plain (Ok h) = headed h
 
 abbrev pub plain_behind : List ℕ → Header → PlainReading
 plain_behind f (unfit n) = unread n

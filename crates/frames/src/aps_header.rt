@@ -60,17 +60,20 @@ fn header_length(c: u8) -> usize
     8
 }
 
-pub(crate) fn read(f: &[u8]) -> Heading
+pub(crate) fn read(f: &[u8]) -> Result<Heading, Refusal>
     ensures { told_heading result ≡ read_header Aps f.now }
 {
     if f.len() < 1 {
-        return Heading::Refused(Refusal::Short);
+        return Err(Refusal::Short);
     }
     let c = octets::octet(f, 0);
     if !form(c) {
-        return Heading::Refused(Refusal::Form);
+        return Err(Refusal::Form);
     }
-    Heading::Octets(header_length(c), is_secured(c))
+    Ok(Heading {
+        octets: header_length(c),
+        secured: is_secured(c),
+    })
 }
 
 pub(crate) fn is_keyed(identifier: u8) -> bool

@@ -9,7 +9,6 @@ mod reading;
 mod security;
 mod tunnelling;
 
-use answers::Refusal;
 pub use making::{lay_authenticated, lay_plain_header, lay_secured_header};
 pub use reading::{read_command, read_frame, read_plain};
 pub use security::{identifier, lay_auxiliary, nonce, wire_control};
@@ -33,25 +32,26 @@ pub struct Secured {
     pub sequence: u8,
 }
 
-// A frame that is to be opened: refused, unsecured with so many octets of header, or secured.
+// The auxiliary header that sealing sends. Of the identifier only the two lowest bits count, and only
+// identifier 1 sends the key sequence number.
+#[derive(Clone, Copy)]
+pub struct Auxiliary {
+    pub identifier: u8,
+    pub counter: u32,
+    pub sender: u64,
+    pub sequence: u8,
+}
+
+// A frame that is to be opened: unsecured, with so many octets of header, or secured.
 #[derive(Clone, Copy)]
 pub enum Read {
-    Refused(Refusal),
     Plain(usize),
     Secured(Secured),
 }
 
-// A plain frame that is to be sealed, or whose command is to be read: refused, or its header has so
-// many octets.
+// A header that was read: how many octets it has, and whether the security bit is set.
 #[derive(Clone, Copy)]
-pub enum PlainRead {
-    Refused(Refusal),
-    Header(usize),
-}
-
-// A header read: refused, or so many octets of it, and whether the security bit is set.
-#[derive(Clone, Copy)]
-enum Heading {
-    Refused(Refusal),
-    Octets(usize, bool),
+struct Heading {
+    octets: usize,
+    secured: bool,
 }

@@ -52,17 +52,20 @@ fn header_length(f: &[u8], c: u16) -> usize
     b
 }
 
-pub(crate) fn read(f: &[u8]) -> Heading
+pub(crate) fn read(f: &[u8]) -> Result<Heading, Refusal>
     ensures { told_heading result ≡ read_header Network f.now }
 {
     if f.len() < 2 {
-        return Heading::Refused(Refusal::Short);
+        return Err(Refusal::Short);
     }
     let c = octets::number2(f, 0);
     if !form(c) {
-        return Heading::Refused(Refusal::Form);
+        return Err(Refusal::Form);
     }
-    Heading::Octets(header_length(f, c), is_secured(c))
+    Ok(Heading {
+        octets: header_length(f, c),
+        secured: is_secured(c),
+    })
 }
 
 // Whether a key identifier and a nonce bit are the network layer's.

@@ -5,10 +5,10 @@ ghost use Rattle.frames.specs.Layers.{suits, given_to};
 ghost use Rattle.frames.specs.Reading.{told_read, announced, read_header, read_secured, read_plain, reading, told_plain, reading_plain, reading_command};
 ghost use Rattle.frames.specs.Code.{told_heading};
 
-use crate::{Heading, Layer, PlainRead, Read, Secured, aps_header, network_header, security};
+use crate::{Heading, Layer, Read, Secured, aps_header, network_header, security};
 use answers::Refusal;
 
-fn read_header(l: Layer, f: &[u8]) -> Heading
+fn read_header(l: Layer, f: &[u8]) -> Result<Heading, Refusal>
     ensures { told_heading result ≡ read_header l f.now }
 {
     match l {
@@ -59,83 +59,68 @@ fn is_suited(l: Layer, control: u8) -> bool
 }
 
 // A secured frame behind h octets of header.
-fn secured_behind(l: Layer, f: &[u8], h: usize, given: u64) -> Read
+fn secured_behind(l: Layer, f: &[u8], h: usize, given: u64) -> Result<Read, Refusal>
     ensures { told_read result ≡ read_secured ours l f.now h given }
 {
     if f.len() <= h {
-        return Read::Refused(Refusal::Short);
+        return Err(Refusal::Short);
     }
     if !is_suited(l, f[h]) {
-        return Read::Refused(Refusal::Security);
+        return Err(Refusal::Security);
     }
     if f.len() < h + security::aux_length(f[h]) + settings::TAG {
-        return Read::Refused(Refusal::Short);
+        return Err(Refusal::Short);
     }
     if octets::no_address(security::sender(f, h, given)) {
-        return Read::Refused(Refusal::Security);
+        return Err(Refusal::Security);
     }
-    Read::Secured(announce(f, h, given))
+    Ok(Read::Secured(announce(f, h, given)))
 }
 
-fn plain_behind(f: &[u8], h: usize) -> Read
+fn plain_behind(f: &[u8], h: usize) -> Result<Read, Refusal>
     ensures { told_read result ≡ read_plain f.now h }
 {
     if f.len() < h {
-        return Read::Refused(Refusal::Short);
+        return Err(Refusal::Short);
     }
-    Read::Plain(h)
+    Ok(Read::Plain(h))
 }
 
 // A frame that is to be opened; given is the sender of an APS frame that carries none.
-pub fn read_frame(layer: Layer, frame: &[u8], given: u64) -> Read
+pub fn read_frame(layer: Layer, frame: &[u8], given: u64) -> Result<Read, Refusal>
     ensures { told_read result ≡ reading ours layer frame.now given }
 {
-    match read_header(layer, frame) {
-        Heading::Refused(r) => Read::Refused(r),
-        Heading::Octets(h, secured) => {
-            if secured {
-                return secured_behind(layer, frame, h, given_to(layer, given));
-            }
-            plain_behind(frame, h)
-        }
+    let heading = read_header(layer, frame)?;
+    if heading.secured {
+        return secured_behind(layer, frame, heading.octets, given_to(layer, given));
     }
+    plain_behind(frame, heading.octets)
 }
 
 // A plain frame that is to be sealed.
-pub fn read_plain(layer: Layer, frame: &[u8]) -> PlainRead
+pub fn read_plain(layer: Layer, frame: &[u8]) -> Result<usize, Refusal>
     ensures { told_plain result ≡ reading_plain layer frame.now }
 {
-    match read_header(layer, frame) {
-        Heading::Refused(r) => PlainRead::Refused(r),
-        Heading::Octets(h, secured) => {
-            if secured {
-                return PlainRead::Refused(Refusal::Form);
-            }
-            if frame.len() < h {
-                return PlainRead::Refused(Refusal::Short);
-            }
-            PlainRead::Header(h)
-        }
+    let heading = read_header(layer, frame)?;
+    if heading.secured {
+        return Err(Refusal::Form);
     }
+    if frame.len() < heading.octets {
+        return Err(Refusal::Short);
+    }
+    Ok(heading.octets)
 }
 
 // A plain APS frame whose command is to be read.
-pub fn read_command(frame: &[u8]) -> PlainRead
+pub fn read_command(frame: &[u8]) -> Result<usize, Refusal>
     ensures { told_plain result ≡ reading_command frame.now }
 {
-    match aps_header::read(frame) {
-        Heading::Refused(r) => PlainRead::Refused(r),
-        Heading::Octets(h, secured) => {
-            if frame.len() < h {
-                return PlainRead::Refused(Refusal::Short);
-            }
-            if octets::octet(frame, 0) % 4 != 1 {
-                return PlainRead::Refused(Refusal::Form);
-            }
-            if secured {
-                return PlainRead::Refused(Refusal::Form);
-            }
-            PlainRead::Header(h)
-        }
+    let heading = aps_header::read(frame)?;
+    if frame.len() < heading.octets {
+        return Err(Refusal::Short);
     }
+    if octets::octet(frame, 0) % 4 != 1 || heading.secured {
+        return Err(Refusal::Form);
+    }
+    Ok(heading.octets)
 }

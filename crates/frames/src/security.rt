@@ -5,6 +5,8 @@ ghost use Rattle.octets.specs.Least.{spelled};
 ghost use Rattle.settings.specs.Settings.{ours};
 ghost use Rattle.frames.specs.Security.{identifier_of, extended_of, with_level, wire_control, aux_length, sender_of, sequence_of, nonce_of, auxiliary};
 
+use crate::Auxiliary;
+
 // The key identifier that a security control names.
 pub fn identifier(control: u8) -> u8
     ensures { result ≡ identifier_of control }
@@ -78,34 +80,25 @@ pub fn nonce(sender: u64, counter: u32, control: u8) -> [u8; 13]
 }
 
 // The fields of the auxiliary header, the key sequence number last.
-fn aux_fields(control: u8, counter: u32, sender: u64, sequence: u8) -> [u8; 14]
-    ensures { result ≡ control ∷ (spelled 4 counter ++ (spelled 8 sender ++ (sequence ∷ []))) }
+fn aux_fields(aux: Auxiliary) -> [u8; 14]
+    ensures { result ≡ wire_control (aux.identifier % 4) ∷ (spelled 4 aux.counter ++ (spelled 8 aux.sender ++ (aux.sequence ∷ []))) }
 {
-    let count = octets::spelled4(counter);
-    let address = octets::spelled8(sender);
+    let count = octets::spelled4(aux.counter);
+    let address = octets::spelled8(aux.sender);
     let mut octets = [0u8; 14];
-    octets[0] = control;
+    octets[0] = wire_control(aux.identifier);
     octets::paste_at(&mut octets, 1, &count);
     octets::paste_at(&mut octets, 5, &address);
-    octets[13] = sequence;
+    octets[13] = aux.sequence;
     octets
 }
 
-// The auxiliary header that sealing sends, laid into out from place i on; only identifier 1 sends
-// the key sequence number. Of the identifier only the two lowest bits count. Where the header does
-// not fit, out is as it stood.
-pub fn lay_auxiliary(
-    out: &mut [u8],
-    i: usize,
-    identifier: u8,
-    counter: u32,
-    sender: u64,
-    sequence: u8,
-)
-    ensures { out.new ≡ pasted out.old i (auxiliary (identifier % 4) counter sender sequence) }
+// The auxiliary header laid into out from place i on. Where it does not fit, out is as it stood.
+pub fn lay_auxiliary(out: &mut [u8], i: usize, aux: Auxiliary)
+    ensures { out.new ≡ pasted out.old i (auxiliary (aux.identifier % 4) aux.counter aux.sender aux.sequence) }
 {
-    let fields = aux_fields(wire_control(identifier), counter, sender, sequence);
-    if identifier % 4 == 1 {
+    let fields = aux_fields(aux);
+    if aux.identifier % 4 == 1 {
         octets::paste_at(out, i, &fields);
     } else {
         octets::paste_at(out, i, &fields[..13]);

@@ -1,6 +1,7 @@
 -- What the link entries mean: a partner's entry is there just if a key was added for it and not removed since, has the octets
 -- of the last one, and its floor is the least counter above all that were opened under it.
 -- Assumes nothing.
+use Rattle.std.proofs.Common.{Option, Some, None}
 use mathlib.Core.Path.{◌≡◌, refl, sym, ap, ap₂, ◌∙◌}
 use mathlib.Core.Logic.{⊎_elim}
 use mathlib.Core.Bool.{Bool, true, false, not}
@@ -20,15 +21,13 @@ use Rattle.history.proofs.Searches.{same_or, clash, first-ext, first-only, first
 use Rattle.history.proofs.Counters.{bound}
 use Rattle.history.proofs.Senders.{pick_same, pick-else}
 use Rattle.board.specs.declared.Link.{Link}
-use Rattle.board.specs.declared.Place.{Place}
-use Rattle.board.specs.declared.Place.TheVariants.{At, Absent}
 use Rattle.board.specs.State.{link_at, pairs, no_link, fresh}
 use Rattle.board.specs.Requests.{link_of, free_link}
 use Rattle.board.proofs.Found.{first_found, first-none}
 
-abbrev pub Tells : List Link → Place → Installation → List ℕ → Type 0
-Tells ls (At i) k l = (k ≡ key 0 (the_key (link_at ls i).key)) × ((link_at ls i).floor ≡ bound l)
-Tells ls Absent k l = k ≡ none
+abbrev pub Tells : List Link → Option ℕ → Installation → List ℕ → Type 0
+Tells ls (Some i) k l = (k ≡ key 0 (the_key (link_at ls i).key)) × ((link_at ls i).floor ≡ bound l)
+Tells ls None k l = k ≡ none
 
 abbrev pub pairs_at : List Link → ℕ → ℕ → Bool
 pairs_at ls a i = pairs (link_at ls i) a
@@ -124,12 +123,12 @@ module _ {ls : List Link} {keys : ℕ → Installation} {opened : ℕ → List �
   unfolding link_of
   tells-kept b ne = rw (place_kept b ne) (go (link_of ls b) refl (w.tells b))
     where
-      away : (q : ℕ) → link_of ls b ≡ At q → q ≡ i → ⊥
+      away : (q : ℕ) → link_of ls b ≡ Some q → q ≡ i → ⊥
       away q e f = clash (rw (← f) (first_found (pairs_at ls b) 8 0 q e).passes) (was b ne)
 
-      go : (p : Place) → link_of ls b ≡ p → Tells ls p (keys b) (opened b) → Tells ks p (keys b) (opened b)
-      go (At q) e t = rw (kept q (away q e)) t
-      go Absent e t = t
+      go : (p : Option ℕ) → link_of ls b ≡ p → Tells ls p (keys b) (opened b) → Tells ks p (keys b) (opened b)
+      go (Some q) e t = rw (kept q (away q e)) t
+      go None e t = t
 
   pub entry-changes : (keys' : ℕ → Installation) (opened' : ℕ → List ℕ) → ((b : ℕ) → (b ≡ a → ⊥) → keys' b ≡ keys b)
       → ((b : ℕ) → (b ≡ a → ⊥) → opened' b ≡ opened b) → Tells ks (link_of ks a) (keys' a) (opened' a) → Links ks keys' opened'
@@ -148,7 +147,7 @@ module _ {ls : List Link} {keys : ℕ → Installation} {opened : ℕ → List �
       entry-changes _ _ (λ b ne. pick-else a b (key 0 k) (keys b) ne) (λ b ne. pick-else a b o (opened b) ne)
       (rw (place, pick_same a (key 0 k) (keys a), pick_same a o (opened a), now-is) (ap (key 0) (sym ek), ef))
     where
-      place : link_of ks a ≡ At i
+      place : link_of ks a ≡ Some i
       place =
           first-only (pairs_at ks a) 0 8 i (omega arith) (omega arith) (ap (λ (y : Link). pairs y a) now-is ∙ mine)
           (λ j c d e. ⊎_elim (λ (x : j ≡ i). x)
@@ -161,7 +160,7 @@ module _ {ls : List Link} {keys : ℕ → Installation} {opened : ℕ → List �
       entry-changes _ _ (λ b ne. pick-else a b none (keys b) ne) (λ b ne. pick-else a b [] (opened b) ne)
       (rw (place, pick_same a none (keys a)) refl)
     where
-      place : link_of ks a ≡ Absent
+      place : link_of ks a ≡ None
       place =
           first-nowhere (pairs_at ks a) 8 0
           (λ j c d. ⊎_elim (λ (x : j ≡ i). rw x (ap (λ (y : Link). pairs y a) now-is ∙ free))
@@ -176,7 +175,7 @@ module _ {ls : List Link} {keys : ℕ → Installation} {opened : ℕ → List �
     pub was : (b : ℕ) → (b ≡ a → ⊥) → pairs_at ls b i ≡ false
     pub others : (j : ℕ) → j < 8 → (j ≡ i → ⊥) → pairs_at ls a j ≡ false
 
-  pub mine : link_of ls a ≡ At i → Mine
+  pub mine : link_of ls a ≡ Some i → Mine
   unfolding link_of
   mine e =
       let g = first_found (pairs_at ls a) 8 0 i e in
@@ -193,7 +192,7 @@ module _ {ls : List Link} {keys : ℕ → Installation} {opened : ℕ → List �
       away j j< ne i< p false f = f
 
   -- a free entry, where the partner has none
-  pub free : link_of ls a ≡ Absent → free_link ls ≡ At i
+  pub free : link_of ls a ≡ None → free_link ls ≡ Some i
       → (i < 8) × ((b : ℕ) → (b ≡ a → ⊥) → pairs_at ls b i ≡ false) × ((j : ℕ) → j < 8 → (j ≡ i → ⊥) → pairs_at ls a j ≡ false)
   unfolding link_of free_link
   free e f =

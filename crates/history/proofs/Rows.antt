@@ -1,6 +1,7 @@
 -- What the rows mean: a sender's row is there just if the sender was opened under its slot's key and not forgotten since, and
 -- its floor is the least counter above all that were opened. No frame, no key and no call is spoken of here.
 -- Assumes nothing.
+use Rattle.std.proofs.Common.{Option, Some, None}
 use mathlib.Core.Path.{◌≡◌, refl, sym, ap, ◌∙◌}
 use mathlib.Core.Logic.{◌⊎◌, ⊎_elim}
 use mathlib.Core.Bool.{Bool, true, false, not}
@@ -13,8 +14,6 @@ use lib.Seq.{get_or-set_same, get_or-set_other}
 use borrow.Author.Tests.{eqb-true, ne_eqb}
 use Rattle.history.proofs.Searches.{same_or, first-ext, first-nowhere, bit, count, count-ext, count_none, count-change}
 use Rattle.history.proofs.Counters.{bound, member, Distinct, no_one}
-use Rattle.board.specs.declared.Place.{Place}
-use Rattle.board.specs.declared.Place.TheVariants.{At, Absent}
 use Rattle.board.specs.Places.{first_at}
 use Rattle.board.proofs.Found.{first_found}
 use Rattle.board.proofs.Halves.{slot-within}
@@ -40,12 +39,12 @@ row_is al a k = eqb (get_or al k 0) a
 abbrev pub in_use : List ℕ → ℕ → Bool
 in_use al k = not (eqb (get_or al k 0) 0)
 
-abbrev pub place_of : ℕ → List ℕ → ℕ → ℕ → Place
+abbrev pub place_of : ℕ → List ℕ → ℕ → ℕ → Option ℕ
 place_of m al i a = first_at (row_is al a) (i * m) m
 
-abbrev pub there : Place → Bool
-there (At r) = true
-there Absent = false
+abbrev pub there : Option ℕ → Bool
+there (Some r) = true
+there None = false
 
 pub record Rows (m : ℕ) (al fl : List ℕ) (opened : ℕ → ℕ → List ℕ) (senders : ℕ → List ℕ) : Type 0 where
   pub addrs : length al ≡ 2 * m
@@ -90,7 +89,7 @@ rows-fresh m =
     zeros : (i r : ℕ) → i < 2 → In m i r → get_or (zeroes (2 * m)) r 0 ≡ 0
     zeros i r h a = get_or-replicate {A = ℕ} (2 * m) r 0 0 (omega (arith, slot-within m i h, a))
 
-    nowhere : (i a : ℕ) → i < 2 → (a ≡ 0 → ⊥) → place_of m (zeroes (2 * m)) i a ≡ Absent
+    nowhere : (i a : ℕ) → i < 2 → (a ≡ 0 → ⊥) → place_of m (zeroes (2 * m)) i a ≡ None
     nowhere i a h ne =
         first-nowhere (row_is (zeroes (2 * m)) a) m (i * m)
         (λ k c d. ap (λ (x : ℕ). eqb x a) (zeros i k h (c, d)) ∙ ne_eqb 0 a (λ e. ne (sym e)))
@@ -139,15 +138,15 @@ module _ (m : ℕ) {al fl : List ℕ} {opened : ℕ → ℕ → List ℕ} {sende
   floor-kept : (j b : ℕ) → j < 2 → (b ≡ 0 → ⊥) → Else j b → floor_at gl (place_of m al j b) ≡ floor_at fl (place_of m al j b)
   floor-kept j b j< bz el = go (place_of m al j b) refl
     where
-      away : (q : ℕ) → place_of m al j b ≡ At q → q ≡ r → ⊥
+      away : (q : ℕ) → place_of m al j b ≡ Some q → q ≡ r → ⊥
       away q e f =
           let g = first_found (row_is al b) m (j * m) q e in
           let u : get_or al r 0 ≡ b = ap (λ (k : ℕ). get_or al k 0) (sym f) ∙ eqb-true _ _ g.passes in
           not-mine a b (get_or al r 0) was (el (slot_apart m j i r j< i< (omega (arith, f, g.low), omega (arith, f, g.high)) inr)) bz u
 
-      go : (p : Place) → place_of m al j b ≡ p → floor_at gl p ≡ floor_at fl p
-      go (At q) e = get_or-set_other fl r q x 0 (away q e)
-      go Absent e = refl
+      go : (p : Option ℕ) → place_of m al j b ≡ p → floor_at gl p ≡ floor_at fl p
+      go (Some q) e = get_or-set_other fl r q x 0 (away q e)
+      go None e = refl
 
   once-kept : (j : ℕ) → j < 2 → (s q : ℕ) → In m j s → In m j q → get_or bl s 0 ≡ get_or bl q 0 → (get_or bl s 0 ≡ 0 → ⊥) → s ≡ q
   once-kept j j< s q ins inq e nz = ⊎_elim (λ p. first p) (λ p. second p) (same_or s r)

@@ -1,5 +1,6 @@
 -- Laws of searches where at most one place passes, and of how many places pass.
 -- Assumes nothing.
+use Rattle.std.proofs.Common.{Option, Some, None}
 use mathlib.Core.Path.{◌≡◌, refl, ap, ap₂, ◌∙◌}
 use mathlib.Core.Logic.{◌⊎◌, inl, inr, ⊎_elim}
 use mathlib.Core.Bool.{Bool, true, false, not}
@@ -8,8 +9,6 @@ use native.Mathlib.Omega.{arith}
 use lib.Dec.{eqb}
 use borrow.Author.Tests.{eqb-true, eqb-false}
 use Rattle.std.specs.Prelude.{if◌then◌else◌}
-use Rattle.board.specs.declared.Place.{Place}
-use Rattle.board.specs.declared.Place.TheVariants.{At, Absent}
 use Rattle.board.specs.Places.{first_at}
 use Rattle.board.proofs.Found.{first_found, first-none}
 
@@ -33,23 +32,23 @@ pub first-ext : (p q : ℕ → Bool) (n i : ℕ) → ((k : ℕ) → i ≤ k → 
 unfolding first_at
 first-ext p q zero i h = refl
 first-ext p q (suc n) i h =
-    ap₂ (λ (t : Bool) (r : Place). if t then At i else r) (h i (omega arith) (omega arith))
+    ap₂ (λ (t : Bool) (r : Option ℕ). if t then Some i else r) (h i (omega arith) (omega arith))
     (first-ext p q n (i + 1) (λ k a b. h k (omega arith) (omega arith)))
 
 pub first-only : (p : ℕ → Bool) (i n r : ℕ) → i ≤ r → r < i + n → p r ≡ true
-    → ((k : ℕ) → i ≤ k → k < i + n → p k ≡ true → k ≡ r) → first_at p i n ≡ At r
+    → ((k : ℕ) → i ≤ k → k < i + n → p k ≡ true → k ≡ r) → first_at p i n ≡ Some r
 first-only p i n r a b t h = go (first_at p i n) refl
   where
-    go : (x : Place) → first_at p i n ≡ x → first_at p i n ≡ At r
-    go (At k) e = let w = first_found p n i k e in e ∙ ap At (h k w.low w.high w.passes)
-    go Absent e = clash t (first-none p n i e r a b)
+    go : (x : Option ℕ) → first_at p i n ≡ x → first_at p i n ≡ Some r
+    go (Some k) e = let w = first_found p n i k e in e ∙ ap Some (h k w.low w.high w.passes)
+    go None e = clash t (first-none p n i e r a b)
 
-pub first-nowhere : (p : ℕ → Bool) (n i : ℕ) → ((k : ℕ) → i ≤ k → k < i + n → p k ≡ false) → first_at p i n ≡ Absent
+pub first-nowhere : (p : ℕ → Bool) (n i : ℕ) → ((k : ℕ) → i ≤ k → k < i + n → p k ≡ false) → first_at p i n ≡ None
 first-nowhere p n i h = go (first_at p i n) refl
   where
-    go : (x : Place) → first_at p i n ≡ x → first_at p i n ≡ Absent
-    go (At k) e = let w = first_found p n i k e in clash w.passes (h k w.low w.high)
-    go Absent e = e
+    go : (x : Option ℕ) → first_at p i n ≡ x → first_at p i n ≡ None
+    go (Some k) e = let w = first_found p n i k e in clash w.passes (h k w.low w.high)
+    go None e = e
 
 -- ---- counts
 

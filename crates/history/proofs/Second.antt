@@ -1,5 +1,6 @@
 -- Demand 3, the second statement: whether a secured frame is opened is what calls and answers tell.
 -- Assumes nothing.
+use Rattle.std.proofs.Common.{Option, Some, None}
 use mathlib.Core.Path.{◌≡◌, refl, sym, ap, ap₂, ◌∙◌}
 use mathlib.Core.Bool.{Bool, true, false, not}
 use mathlib.Core.List.{List, [], ◌∷◌}
@@ -40,8 +41,6 @@ use Rattle.frames.specs.Security.{counter_of}
 use Rattle.frames.specs.Reading.{Reading, refused, plain, secured, announced, reading}
 use Rattle.frames.proofs.Found.{secured-frame}
 use Rattle.board.specs.declared.Board.{Board}
-use Rattle.board.specs.declared.Place.{Place}
-use Rattle.board.specs.declared.Place.TheVariants.{At, Absent}
 use Rattle.board.specs.Rows.{legal, lists_fit, half}
 use Rattle.board.specs.State.{slot_at, link_at}
 use Rattle.board.specs.Sending.{Framed}
@@ -146,10 +145,10 @@ module _ (z : Settings) (m : ℕ) (fit : legal (2 * m) ≡ true) (x : Held) (h :
         (room-told m w.rows i i< s.sender (sender-some z Network f 0 s e)
         ∙ room-names m s.sender (heard_in h (slot i)))
       where
-        go : (d : Verdict) (p : Place) → N (network.admitted f s lw d p) ≡ both (is_valid d) (there p)
+        go : (d : Verdict) (p : Option ℕ) → N (network.admitted f s lw d p) ≡ both (is_valid d) (there p)
         go invalid p = refl
-        go (valid n) Absent = refl
-        go (valid n) (At r) = refl
+        go (valid n) None = refl
+        go (valid n) (Some r) = refl
 
     tell-under : (k : Key) (i : ℕ) → i < 2 → N (network.opened_under z m k i f s lw)
         ≡ both (ltb s.counter top)
@@ -168,14 +167,14 @@ module _ (z : Settings) (m : ℕ) (fit : legal (2 * m) ≡ true) (x : Held) (h :
             ap (floor_at x.lists.floors) (row-there m w.rows i i< s.sender)
             ∙ w.rows.floor i s.sender i< (sender-some z Network f 0 s e)
 
-    tell-keyed : (p : Place) → slot_of b.slots s.sequence ≡ p
+    tell-keyed : (p : Option ℕ) → slot_of b.slots s.sequence ≡ p
         → N (network.opened_keyed z m b.slots f s lw p) ≡ passes_under z m h Network f s (holder_at p) (key_in h (holder_at p))
     unfolding network.opened_keyed passes_under
-    tell-keyed (At i) q =
+    tell-keyed (Some i) q =
         let i< = slot-place b.slots s.sequence i q in
         tell-under (the_key (slot_at b.slots i).key) i i<
         ∙ ap (passes_under z m h Network f s (slot i)) (sym (found-key w.slots s.sequence i q i<))
-    tell-keyed Absent q = ap (passes_under z m h Network f s nowhere) (sym (key-nowhere h))
+    tell-keyed None q = ap (passes_under z m h Network f s nowhere) (sym (key-nowhere h))
 
   tell-read : (r : Reading) → reading z Network f 0 ≡ r → ((n : ℕ) → r ≡ plain n → ⊥)
       → N (network.opened_read z m b.slots f lw r) ≡ passes_read z m h Network f r
@@ -184,7 +183,7 @@ module _ (z : Settings) (m : ℕ) (fit : legal (2 * m) ≡ true) (x : Held) (h :
   tell-read (plain n) e ne = absurd (ne n refl)
   tell-read (secured s) e ne =
       tell-keyed s e (slot_of b.slots s.sequence) refl
-      ∙ ap (λ (p : Place). passes_under z m h Network f s (holder_at p) (key_in h (holder_at p))) (sym (slot-for z m x h w s.sequence))
+      ∙ ap (λ (p : Option ℕ). passes_under z m h Network f s (holder_at p) (key_in h (holder_at p))) (sym (slot-for z m x h w s.sequence))
 
   pub tell-network : ((n : ℕ) → reading z Network f 0 ≡ plain n → ⊥)
       → not (refuses (step z (opening Network f g o) x).reply) ≡ passes z m h Network f g o
@@ -216,7 +215,7 @@ module _ (z : Settings) (m : ℕ) (fit : legal (2 * m) ≡ true) (x : Held) (h :
   A r = not (refuses (calls.gave r.answer r.out))
 
   module _ (s : Secured) (e : reading z Aps f g ≡ secured s) where
-    tell-entry : (i : ℕ) → Tells b.links (At i) (key_in h (link s.sender)) (counters s.sender (heard_in h (link s.sender)))
+    tell-entry : (i : ℕ) → Tells b.links (Some i) (key_in h (link s.sender)) (counters s.sender (heard_in h (link s.sender)))
         → A (aps.opened_under z b f s o i)
         ≡ passes_under z m h Aps f s (link s.sender) (key 0 (the_key (link_at b.links i).key))
     unfolding aps.opened_under aps.admitted passes_under genuine
@@ -238,12 +237,12 @@ module _ (z : Settings) (m : ℕ) (fit : legal (2 * m) ≡ true) (x : Held) (h :
         go invalid = refl
         go (valid n) = refl
 
-    tell-link : (p : Place) → link_of b.links s.sender ≡ p
+    tell-link : (p : Option ℕ) → link_of b.links s.sender ≡ p
         → Tells b.links p (key_in h (link s.sender)) (counters s.sender (heard_in h (link s.sender)))
         → A (aps.opened_keyed z b f s o p) ≡ passes_under z m h Aps f s (link s.sender) (key_in h (link s.sender))
     unfolding aps.opened_keyed passes_under
-    tell-link (At i) q t = tell-entry i t ∙ ap (passes_under z m h Aps f s (link s.sender)) (sym t.0)
-    tell-link Absent q t = ap (passes_under z m h Aps f s (link s.sender)) (sym t)
+    tell-link (Some i) q t = tell-entry i t ∙ ap (passes_under z m h Aps f s (link s.sender)) (sym t.0)
+    tell-link None q t = ap (passes_under z m h Aps f s (link s.sender)) (sym t)
 
   tell-read-aps : (r : Reading) → reading z Aps f g ≡ r → ((n : ℕ) → r ≡ plain n → ⊥)
       → A (aps.opened_read z b f o r) ≡ passes_read z m h Aps f r

@@ -1,5 +1,6 @@
 -- What the rows mean, kept: a sender is heard, a sender is forgotten, the rows of a slot are freed; and whether there is room.
 -- Assumes nothing.
+use Rattle.std.proofs.Common.{Option, Some, None}
 use mathlib.Core.Path.{◌≡◌, refl, sym, ap, ◌∙◌}
 use mathlib.Core.Logic.{inl, inr, ⊎_elim}
 use mathlib.Core.Bool.{Bool, true, false, not}
@@ -16,8 +17,6 @@ use Rattle.history.proofs.Searches.{same_or, first-ext, first-only, first-nowher
 use Rattle.history.proofs.Counters.{bound, bound-more, member, less, Distinct, no_one, one_more, member-less, member-other, distinct-less, length-less}
 use Rattle.history.proofs.Freed.{freed-in, freed-out}
 use Rattle.history.proofs.Rows.{In, slot_apart, row_is, in_use, place_of, there, Rows, Mine, row-changes}
-use Rattle.board.specs.declared.Place.{Place}
-use Rattle.board.specs.declared.Place.TheVariants.{At, Absent}
 use Rattle.board.specs.Rows.{lists, find_row, freed}
 use Rattle.board.proofs.Found.{first_found, first-none, rows-there}
 use Rattle.board.proofs.Halves.{slot-within}
@@ -56,7 +55,7 @@ module _ (m : ℕ) {al fl : List ℕ} {opened : ℕ → ℕ → List ℕ} {sende
       pub others : (q : ℕ) → In m i q → (q ≡ r → ⊥) → get_or al q 0 ≡ a → ⊥
       pub uses : in_use al r ≡ member a (senders i)
 
-    own_row : (r : ℕ) → place_of m al i a ≡ At r → Takes r
+    own_row : (r : ℕ) → place_of m al i a ≡ Some r → Takes r
     own_row r e =
         let g = first_found (row_is al a) m (i * m) r e in
         let at-r : get_or al r 0 ≡ a = eqb-true _ _ g.passes in
@@ -68,7 +67,7 @@ module _ (m : ℕ) {al fl : List ℕ} {opened : ℕ → ℕ → List ℕ} {sende
           uses = ap not (ne_eqb _ 0 nz) ∙ ap there (sym e) ∙ w.known i a i< az;
         }
 
-    free-row : (r : ℕ) → place_of m al i a ≡ Absent → place_of m al i 0 ≡ At r → Takes r
+    free-row : (r : ℕ) → place_of m al i a ≡ None → place_of m al i 0 ≡ Some r → Takes r
     free-row r e f =
         let g = first_found (row_is al 0) m (i * m) r f in
         record {
@@ -82,12 +81,12 @@ module _ (m : ℕ) {al fl : List ℕ} {opened : ℕ → ℕ → List ℕ} {sende
     unfolding row_for
     row-for = ap (or_free m (lists al fl) i) (row-there a)
 
-    takes : (r : ℕ) → row_for m (lists al fl) i a ≡ At r → Takes r
+    takes : (r : ℕ) → row_for m (lists al fl) i a ≡ Some r → Takes r
     takes r e = go (place_of m al i a) refl (sym row-for ∙ e)
       where
-        go : (p : Place) → place_of m al i a ≡ p → or_free m (lists al fl) i p ≡ At r → Takes r
-        go (At q) f g = own_row r (f ∙ g)
-        go Absent f g = free-row r f (sym (row-there 0) ∙ g)
+        go : (p : Option ℕ) → place_of m al i a ≡ p → or_free m (lists al fl) i p ≡ Some r → Takes r
+        go (Some q) f g = own_row r (f ∙ g)
+        go None f g = free-row r f (sym (row-there 0) ∙ g)
 
     -- "There is room if the sender was opened .. or if fewer .. were."
     pub room-told : there (row_for m (lists al fl) i a) ≡ (if member a (senders i) then true else ltb (length (senders i)) m)
@@ -95,23 +94,23 @@ module _ (m : ℕ) {al fl : List ℕ} {opened : ℕ → ℕ → List ℕ} {sende
         ap there row-for ∙ go (place_of m al i a) refl
         ∙ ap (λ (t : Bool). if t then true else ltb (length (senders i)) m) (w.known i a i< az)
       where
-        free : (p : Place) → place_of m al i 0 ≡ p → there p ≡ ltb (length (senders i)) m
-        free (At r) e =
+        free : (p : Option ℕ) → place_of m al i 0 ≡ p → there p ≡ ltb (length (senders i)) m
+        free (Some r) e =
             let g = first_found (row_is al 0) m (i * m) r e in
             sym (lt-ltb (length (senders i)) m
             (omega (arith, w.used i i<, count_less (in_use al) r m (i * m) g.low g.high (ap not g.passes))))
-        free Absent e =
+        free None e =
             sym (le-ltb (length (senders i)) m
             (omega (arith, w.used i i<, count-all (in_use al) m (i * m) (λ k c d. ap not (first-none (row_is al 0) m (i * m) e k c d)))))
 
-        go : (p : Place) → place_of m al i a ≡ p
+        go : (p : Option ℕ) → place_of m al i a ≡ p
             → there (or_free m (lists al fl) i p) ≡ (if there p then true else ltb (length (senders i)) m)
-        go (At q) f = refl
-        go Absent f = ap there (row-there 0) ∙ free (place_of m al i 0) refl
+        go (Some q) f = refl
+        go None f = ap there (row-there 0) ∙ free (place_of m al i 0) refl
 
     -- ---- heard
 
-    pub hear-rows : (r n : ℕ) → row_for m (lists al fl) i a ≡ At r → bound (opened i a) ≤ n
+    pub hear-rows : (r n : ℕ) → row_for m (lists al fl) i a ≡ Some r → bound (opened i a) ≤ n
         → Rows m (set al r a) (set fl r (n + 1)) (λ j b. if both (eqb i j) (eqb a b) then n ∷ opened j b else opened j b)
         (λ j. if eqb i j then a ∷ less a (senders j) else senders j)
     hear-rows r n e h =
@@ -146,7 +145,7 @@ module _ (m : ℕ) {al fl : List ℕ} {opened : ℕ → ℕ → List ℕ} {sende
         now-used : in_use (set al r a) r ≡ true
         now-used = ap (λ (y : ℕ). not (eqb y 0)) now-is ∙ ap not (ne_eqb a 0 az)
 
-        place : place_of m (set al r a) i a ≡ At r
+        place : place_of m (set al r a) i a ≡ Some r
         place =
             first-only (row_is (set al r a) a) (i * m) m r t.within.0 t.within.1 (eq-eqb _ a now-is)
             (λ k c d f. ⊎_elim (λ (g : k ≡ r). g)
@@ -170,7 +169,7 @@ module _ (m : ℕ) {al fl : List ℕ} {opened : ℕ → ℕ → List ℕ} {sende
 
     -- ---- forgotten
 
-    pub lose-rows : (r : ℕ) → place_of m al i a ≡ At r
+    pub lose-rows : (r : ℕ) → place_of m al i a ≡ Some r
         → Rows m (set al r 0) (set fl r 0) (λ j b. if both (eqb i j) (eqb a b) then [] else opened j b)
         (λ j. if eqb i j then less a (senders j) else senders j)
     lose-rows r e =
@@ -201,7 +200,7 @@ module _ (m : ℕ) {al fl : List ℕ} {opened : ℕ → ℕ → List ℕ} {sende
         now-free : in_use (set al r 0) r ≡ false
         now-free = ap (λ (y : ℕ). not (eqb y 0)) now-is
 
-        place : place_of m (set al r 0) i a ≡ Absent
+        place : place_of m (set al r 0) i a ≡ None
         place =
             first-nowhere (row_is (set al r 0) a) m (i * m)
             (λ k c d. ⊎_elim (λ (g : k ≡ r). rw g (ap (λ (y : ℕ). eqb y a) now-is ∙ ne_eqb 0 a (λ u. az (sym u))))
@@ -268,7 +267,7 @@ module _ (m : ℕ) {al fl : List ℕ} {opened : ℕ → ℕ → List ℕ} {sende
       kept : (j : ℕ) → j < 2 → (j ≡ i → ⊥) → (k : ℕ) → In m j k → get_or (freed al (i * m) m) k 0 ≡ get_or al k 0
       kept j j< ne k ink = freed-out al (i * m) m in-addrs k (out j j< ne k ink)
 
-      nowhere : (b : ℕ) → (b ≡ 0 → ⊥) → place_of m (freed al (i * m) m) i b ≡ Absent
+      nowhere : (b : ℕ) → (b ≡ 0 → ⊥) → place_of m (freed al (i * m) m) i b ≡ None
       nowhere b bz =
           first-nowhere (row_is (freed al (i * m) m) b) m (i * m)
           (λ k c d. ap (λ (y : ℕ). eqb y b) (zeros k (c, d)) ∙ ne_eqb 0 b (λ u. bz (sym u)))
@@ -280,11 +279,11 @@ module _ (m : ℕ) {al fl : List ℕ} {opened : ℕ → ℕ → List ℕ} {sende
       floors : (j : ℕ) → j < 2 → (j ≡ i → ⊥) → (b : ℕ) → floor_at (freed fl (i * m) m) (place_of m al j b) ≡ floor_at fl (place_of m al j b)
       floors j j< ne b = go (place_of m al j b) refl
         where
-          go : (p : Place) → place_of m al j b ≡ p → floor_at (freed fl (i * m) m) p ≡ floor_at fl p
-          go (At q) e =
+          go : (p : Option ℕ) → place_of m al j b ≡ p → floor_at (freed fl (i * m) m) p ≡ floor_at fl p
+          go (Some q) e =
               let g = first_found (row_is al b) m (j * m) q e in
               freed-out fl (i * m) m in-floors q (out j j< ne q (g.low, g.high))
-          go Absent e = refl
+          go None e = refl
 
       alone : (j : ℕ) → j < 2 → (u : Bool) → Distinct (if u then [] else senders j)
       alone j j< true = no_one

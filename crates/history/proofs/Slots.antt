@@ -1,5 +1,6 @@
 -- What the slots mean: a slot is present just if a key was installed there, and has the number and octets of the last one.
 -- Assumes nothing.
+use Rattle.std.proofs.Common.{Some}
 use mathlib.Core.Path.{◌≡◌, refl, sym, subst, ap, ap₂, ◌∙◌}
 use mathlib.Core.Logic.{⊎_elim}
 use mathlib.Core.Bool.{Bool, true, false}
@@ -19,7 +20,6 @@ use Rattle.history.specs.Events.{Installation, none, key, numbered, same_key}
 use Rattle.history.proofs.Searches.{same_or, clash, first-ext}
 use Rattle.history.proofs.Senders.{pick_same, pick-else}
 use Rattle.board.specs.declared.Slot.{Slot}
-use Rattle.board.specs.declared.Place.TheVariants.{At}
 use Rattle.board.specs.Places.{first_at}
 use Rattle.board.specs.State.{slot_at, carries, no_slot, fresh}
 use Rattle.board.specs.Requests.{slot_of, holds, installed}
@@ -55,7 +55,7 @@ module _ {ss : List Slot} {keys : ℕ → Installation} (w : Slots ss keys) wher
   slot-told n = first-ext _ _ 2 0 (λ i a b. keeps-number (slot_at ss i) (keys i) n (w.keeps i (omega arith)))
 
   -- the key that was found
-  pub found-key : (n i : ℕ) → slot_of ss n ≡ At i → i < 2 → keys i ≡ key n (the_key (slot_at ss i).key)
+  pub found-key : (n i : ℕ) → slot_of ss n ≡ Some i → i < 2 → keys i ≡ key n (the_key (slot_at ss i).key)
   unfolding slot_of
   found-key n i e h = go (keys i) refl
     where

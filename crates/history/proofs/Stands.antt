@@ -1,5 +1,6 @@
 -- What the state and the lists mean after any deeds: the slots, the rows and the link entries are what calls and answers tell.
 -- Assumes nothing.
+use Rattle.std.proofs.Common.{Option, Some, None}
 use mathlib.Core.Path.{◌≡◌, refl, sym, subst, ap, ◌∙◌}
 use mathlib.Core.Bool.{Bool, true, false, not}
 use mathlib.Core.List.{List, [], ◌∷◌, ◌++◌}
@@ -34,8 +35,6 @@ use Rattle.frames.specs.Reading.{Header, unfit, header, read_header, secured, re
 use Rattle.frames.proofs.Found.{secured-frame}
 use Rattle.board.specs.declared.Board.{Board}
 use Rattle.board.specs.declared.Link.{Link}
-use Rattle.board.specs.declared.Place.{Place}
-use Rattle.board.specs.declared.Place.TheVariants.{At, Absent}
 use Rattle.board.specs.Rows.{lists, legal, lists_fit, half, find_row}
 use Rattle.board.specs.State.{slot_at, link_at, carries, pairs, no_link, fresh, with_slot, with_link}
 use Rattle.board.specs.Sending.{Framed, spent}
@@ -154,9 +153,9 @@ module _ (z : Settings) (m : ℕ) (x : Held) (h : List Event) (w : Stands m x h)
   unfolding requests.switch
   stands-switch n = go (slot_of b.slots n)
     where
-      go : (p : Place) → Ends (switch n) (by_board x (requests.switch_to b p))
-      go (At i) = record { slots = w.slots; rows = w.rows; links = w.links }
-      go Absent = w
+      go : (p : Option ℕ) → Ends (switch n) (by_board x (requests.switch_to b p))
+      go (Some i) = record { slots = w.slots; rows = w.rows; links = w.links }
+      go None = w
 
   pub stands-forget : (i a : ℕ) → After (forget i a)
   unfolding requests.forget
@@ -190,8 +189,8 @@ module _ (z : Settings) (m : ℕ) (x : Held) (h : List Event) (w : Stands m x h)
       P : Freed → Type 0
       P r = Ends (forget i a) (by_rows x r)
 
-      go : i ≤ 1 → (a ≡ 0 → ⊥) → (p : Place) → find_row x.lists.addrs (i * half x.lists) (half x.lists) a ≡ p → P (requests.forget_at x.lists p)
-      go l az (At r) e =
+      go : i ≤ 1 → (a ≡ 0 → ⊥) → (p : Option ℕ) → find_row x.lists.addrs (i * half x.lists) (half x.lists) a ≡ p → P (requests.forget_at x.lists p)
+      go l az (Some r) e =
           let i< : i < 2 = omega arith in
           let at-half = ap (λ (y : ℕ). find_row x.lists.addrs (i * y) y a) (sym half_is) in
           record {
@@ -199,7 +198,7 @@ module _ (z : Settings) (m : ℕ) (x : Held) (h : List Event) (w : Stands m x h)
             rows = rows_ext (lose-rows m w.rows i i< a az r (sym (row-there m w.rows i i< a) ∙ at-half ∙ e)) lost gone;
             links = w.links;
           }
-      go l az Absent e = w
+      go l az None e = w
 
   -- ---- link keys
 
@@ -227,21 +226,21 @@ module _ (z : Settings) (m : ℕ) (x : Held) (h : List Event) (w : Stands m x h)
                 (λ c. refl) (λ c. pick-over (counters c) (eqb a c) [] (heard_in h (link c)));
           })
 
-      new : (p : Place) → free_link b.links ≡ p → link_of b.links a ≡ Absent → key_in h (link a) ≡ none → P (requests.add_new b a k p)
-      new (At i) e f t =
+      new : (p : Option ℕ) → free_link b.links ≡ p → link_of b.links a ≡ None → key_in h (link a) ≡ none → P (requests.add_new b a k p)
+      new (Some i) e f t =
           let g = free w.links a i f e in
           put i g.0 g.1 g.2 (ap (λ (y : Installation). same_key y (key 0 k)) t)
-      new Absent e f t = w
+      new None e f t = w
 
-      place : (p : Place) → link_of b.links a ≡ p → Tells b.links p (key_in h (link a)) (counters a (heard_in h (link a)))
+      place : (p : Option ℕ) → link_of b.links a ≡ p → Tells b.links p (key_in h (link a)) (counters a (heard_in h (link a)))
           → P (requests.add_to b a k p)
-      place (At i) e t =
+      place (Some i) e t =
           let same : Bool = eq_list (link_at b.links i).key k.octets in
           let told : same_key (key_in h (link a)) (key 0 k) ≡ same = ap (λ (y : Installation). same_key y (key 0 k)) t.0 in
           let g = mine w.links a i e in
           choose P same _ _ (λ f. rw (told ∙ f) w)
           (λ f. put i g.low g.was g.others (told ∙ f))
-      place Absent e t = new (free_link b.links) refl e t
+      place None e t = new (free_link b.links) refl e t
 
   pub stands-remove : (a : ℕ) → After (remove_link a)
   unfolding requests.remove_link
@@ -250,8 +249,8 @@ module _ (z : Settings) (m : ℕ) (x : Held) (h : List Event) (w : Stands m x h)
       P : Changed → Type 0
       P r = Ends (remove_link a) (by_board x r)
 
-      place : (p : Place) → link_of b.links a ≡ p → P (requests.remove_at b p)
-      place (At i) e =
+      place : (p : Option ℕ) → link_of b.links a ≡ p → P (requests.remove_at b p)
+      place (Some i) e =
           let g = mine w.links a i e in
           record {
             slots = w.slots;
@@ -260,7 +259,7 @@ module _ (z : Settings) (m : ℕ) (x : Held) (h : List Event) (w : Stands m x h)
                 (entry_gone w.links i a no_link g.low g.was (λ c ne. pair-free no_link c refl) g.others (pair-free no_link a refl))
                 (λ c. refl) (λ c. pick-over (counters c) (eqb a c) [] (heard_in h (link c)));
           }
-      place Absent e = w
+      place None e = w
 
   -- ---- opening
 
@@ -307,7 +306,7 @@ module _ (z : Settings) (m : ℕ) (x : Held) (h : List Event) (w : Stands m x h)
           az : s.sender ≡ 0 → ⊥
           az = sender-some z Network f 0 s t.read
 
-          row : row_for m x.lists i s.sender ≡ At r
+          row : row_for m x.lists i s.sender ≡ Some r
           row = ap (λ (y : ℕ). row_for y x.lists i s.sender) (sym half_is) ∙ t.row
 
           least : bound (counters s.sender (heard_in h (slot i))) ≤ s.counter
@@ -346,9 +345,9 @@ module _ (z : Settings) (m : ℕ) (x : Held) (h : List Event) (w : Stands m x h)
           g' : Mine w.links a i
           g' = mine w.links a i t.found
 
-          told : Tells b.links (At i) (key_in h (link a)) (counters a (heard_in h (link a)))
+          told : Tells b.links (Some i) (key_in h (link a)) (counters a (heard_in h (link a)))
           told =
-              subst (λ (p : Place). Tells b.links p (key_in h (link a)) (counters a (heard_in h (link a)))) t.found
+              subst (λ (p : Option ℕ). Tells b.links p (key_in h (link a)) (counters a (heard_in h (link a)))) t.found
               (w.links.tells a)
 
           pairing : pairs entry a ≡ true

@@ -4,7 +4,7 @@
 -- opened under it since when, and which were sealed. A cut empties the first two and not the third: document 02 (vi), "Demand 3's first
 -- statement must now hold over any number of cuts. Its second starts afresh at a cut." Nothing here looks at a board or at the lent lists.
 -- Assumes nothing.
-use Rattle.std.specs.Prelude.{Bool, true, false, List, [], ◌∷◌, ℕ, suc, ◌==◌}
+use Rattle.std.specs.Prelude.{Bool, true, false, List, [], ◌∷◌, ℕ, suc, ◌==◌, Option, Some, None}
 use Rattle.std.specs.Prelude.{if◌then◌else◌}
 use Rattle.octets.specs.Choice.{both}
 use Rattle.octets.specs.Keys.{Key}
@@ -12,8 +12,6 @@ use Rattle.octets.specs.Lists.{eq_list}
 use Rattle.frames.specs.declared.Layer.{Layer}
 use Rattle.frames.specs.declared.Layer.TheVariants.{Network, Aps}
 use Rattle.frames.specs.declared.Secured.{Secured}
-use Rattle.board.specs.declared.Place.{Place}
-use Rattle.board.specs.declared.Place.TheVariants.{At, Absent}
 use Rattle.board.specs.Places.{first_at}
 
 -- ---- events
@@ -80,12 +78,12 @@ same_key none y = false
 same_key (key q j) none = false
 same_key (key q j) (key n k) = both (q == n) (eq_list j.octets k.octets)
 
-abbrev pub holder_at : Place → Holder
-holder_at (At i) = slot i
-holder_at Absent = nowhere
+abbrev pub holder_at : Option ℕ → Holder
+holder_at (Some i) = slot i
+holder_at None = nowhere
 
 -- the lowest slot whose key has number n
-unfoldable pub slot_for : List Event → ℕ → Place
+unfoldable pub slot_for : List Event → ℕ → Option ℕ
 slot_for h n = first_at (λ i. numbered (key_in h (slot i)) n) 0 2
 
 -- where the key of a secured frame stands

@@ -13,7 +13,7 @@ use Rattle.octets.specs.Choice.{both}
 use Rattle.octets.proofs.Choices.{both-parts}
 use Rattle.text.specs.Digits.{all_digits}
 use Rattle.labels.specs.declared.spelling.Next.{Next}
-use Rattle.labels.specs.declared.spelling.Next.TheVariants.{Octet, Digit, Behind, Wrong}
+use Rattle.labels.specs.declared.spelling.Next.TheVariants.{Octet, Digit, Behind}
 use Rattle.labels.specs.Codes.{code_length}
 use Rattle.labels.specs.Reading.{separator, hex_digit, spells, digits_in}
 use Rattle.labels.specs.Code.{spells_on}
@@ -43,7 +43,6 @@ abbrev begun : Next → ℕ
 begun Octet = 0
 begun Digit = 1
 begun Behind = 0
-begun Wrong = 0
 
 -- what the digits of a text have that spells on
 pub record Digits (s : List ℕ) (n : Next) : Type 0 where
@@ -69,7 +68,6 @@ unfolding spells_on digits_in all_digits
 digits-on [] Octet e = never e
 digits-on [] Digit e = never e
 digits-on [] Behind e = record { plain = refl; pairs = refl }
-digits-on [] Wrong e = never e
 digits-on (c ∷ s) Octet e = let p = both-parts (hex_digit c) (spells_on s Digit) e in led c s Octet Digit p.0 (digits-on s Digit p.1) refl
 digits-on (c ∷ s) Digit e = let p = both-parts (hex_digit c) (spells_on s Behind) e in led c s Digit Behind p.0 (digits-on s Behind p.1) refl
 digits-on (c ∷ s) Behind e = go (separator c) refl e (digits-on s Octet) (digits-on s Digit)
@@ -78,7 +76,6 @@ digits-on (c ∷ s) Behind e = go (separator c) refl e (digits-on s Octet) (digi
         → (spells_on s Octet ≡ true → Digits s Octet) → (spells_on s Digit ≡ true → Digits s Digit) → Digits (c ∷ s) Behind
     go true h q f g = passed c s h (f q)
     go false h q f g = let p = both-parts (hex_digit c) (spells_on s Digit) q in led c s Behind Digit p.0 (g p.1) refl
-digits-on (c ∷ s) Wrong e = never e
 
 -- two digits for each octet, and nothing besides
 pub spelt-digits : (s : List ℕ) → spells s ≡ true → Digits s Octet

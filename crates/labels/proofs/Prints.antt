@@ -1,16 +1,16 @@
 -- The octets of a label in print, place by place: each has a space and two digits, but for the first, which has no space.
 -- Assumes nothing.
-use mathlib.Core.Path.{◌≡◌, refl, ap, ap₂, ◌∙◌}
+use mathlib.Core.Path.{◌≡◌, refl, sym, ap, ap₂, ◌∙◌}
 use mathlib.Core.List.{List, [], ◌∷◌, ◌++◌}
 use Prim.Native.Nat.{ℕ, zero, suc, ◌+◌, ◌-◌, ◌*◌, ◌/◌, ◌%◌, ◌≤◌, ◌<◌}
 use native.Mathlib.Nat.{not-suc-le-zero, le_of_suc-le-suc}
 use native.Mathlib.Omega.{arith}
-use lib.ListN.{length, get_or, take, drop, replicate, length-append}
-use lib.Seq.{paste, take_at, take_all, take-paste}
+use lib.ListN.{length, get_or, set, take, drop, length-append}
+use lib.Seq.{take_at}
+use borrow.Rule.Slice.PartMut.{put_mid}
+use Rattle.std.proofs.lemmas.Slice.{take-put_mid}
 use Rattle.octets.specs.Least.{spelled}
-use Rattle.octets.specs.Lists.{onto, pasted}
-use Rattle.octets.proofs.Pasted.{pasted-onto, pasted-whole}
-use Rattle.octets.proofs.Tabs.{length-onto}
+use Rattle.text.proofs.Placed.{front-more}
 use Rattle.labels.specs.Crc.{crc}
 use Rattle.labels.specs.Codes.{with_crc}
 use Rattle.labels.specs.Spelling.{capital, digit_in, behind, in_print}
@@ -46,23 +46,43 @@ print-behind [] k h l = absurd (omega arith)
 print-behind (x ∷ s) zero h l = absurd (omega arith)
 print-behind (x ∷ s) (suc k) h l = let e : suc k - 1 ≡ k = omega arith in rw e
 
-module _ (s : List ℕ) (k : ℕ) (h : 1 ≤ k) (l : k < 3 * length s) where
-  there : (j x : ℕ) → k % 3 ≡ j → j < 3 → get_or (behind as_printed (get_or s (k / 3) 0 ∷ [])) j 0 ≡ x → get_or (in_print as_printed s) (k - 1) 0 ≡ x
-  there j x r b e =
-      let n : k ≡ 3 * (k / 3) + j = omega arith in
-      print-behind s k h l ∙ ap (λ (m : ℕ). get_or (behind as_printed s) m 0) n ∙ placed s (k / 3) j x (omega arith) e b
+-- the places of octet k: a space, but before the first, and two digits
+module _ (s : List ℕ) (k : ℕ) (h : k < length s) where
+  there : (j x : ℕ) → 1 ≤ 3 * k + j → j < 3 → get_or (behind as_printed (get_or s k 0 ∷ [])) j 0 ≡ x
+      → get_or (in_print as_printed s) (3 * k + j - 1) 0 ≡ x
+  there j x l b e = print-behind s (3 * k + j) l (omega arith) ∙ placed s k j x h e b
 
-  pub space-there : k % 3 ≡ 0 → get_or (in_print as_printed s) (k - 1) 0 ≡ 0x20
+  space-there : 1 ≤ k → get_or (in_print as_printed s) (3 * k - 1) 0 ≡ 0x20
   unfolding behind
-  space-there r = there 0 0x20 r (omega arith) refl
+  space-there l = let n : 3 * k + 0 - 1 ≡ 3 * k - 1 = omega arith in rw n at (there 0 0x20 (omega arith) (omega arith) refl)
 
-  pub high-there : k % 3 ≡ 1 → get_or (in_print as_printed s) (k - 1) 0 ≡ digit_in capital (get_or s (k / 3) 0 / 16)
+  high-there : get_or (in_print as_printed s) (3 * k) 0 ≡ digit_in capital (get_or s k 0 / 16)
   unfolding behind
-  high-there r = there 1 _ r (omega arith) refl
+  high-there = let n : 3 * k + 1 - 1 ≡ 3 * k = omega arith in rw n at (there 1 _ (omega arith) (omega arith) refl)
 
-  pub low-there : k % 3 ≡ 2 → get_or (in_print as_printed s) (k - 1) 0 ≡ digit_in capital (get_or s (k / 3) 0 % 16)
+  low-there : get_or (in_print as_printed s) (3 * k + 1) 0 ≡ digit_in capital (get_or s k 0 % 16)
   unfolding behind
-  low-there r = there 2 _ r (omega arith) refl
+  low-there = let n : 3 * k + 2 - 1 ≡ 3 * k + 1 = omega arith in rw n at (there 2 _ (omega arith) (omega arith) refl)
+
+-- the octets s in print, of which n places are laid at the front of what was o
+abbrev pub laid : List ℕ → List ℕ → ℕ → List ℕ
+laid s o n = take n (in_print as_printed s) ++ drop n o
+
+-- octet k laid, with the space before it
+module _ (s o : List ℕ) (k : ℕ) (h : k < length s) (r : 3 * length s ≤ length o + 1) where
+  more : (n x : ℕ) → n < 3 * length s - 1 → get_or (in_print as_printed s) n 0 ≡ x → set (laid s o n) n x ≡ laid s o (n + 1)
+  more n x l e = ap (set (laid s o n) n) (sym e) ∙ front-more o (in_print as_printed s) n (omega arith) (omega (arith, length-print s))
+
+  pub space-laid : 1 ≤ k → set (laid s o (3 * k - 1)) (3 * k - 1) 0x20 ≡ laid s o (3 * k)
+  space-laid l = let n : 3 * k - 1 + 1 ≡ 3 * k = omega arith in rw n at (more (3 * k - 1) 0x20 (omega arith) (space-there s k h l))
+
+  pub digits-laid : (m : List ℕ) (a b i : ℕ) → m ≡ laid s o (3 * k) → a ≡ digit_in capital (get_or s k 0 / 16)
+      → b ≡ digit_in capital (get_or s k 0 % 16) → i ≡ k + 1 → set (set m (3 * k) a) (3 * k + 1) b ≡ laid s o (3 * i - 1)
+  digits-laid m a b i e p q w =
+      let n : 3 * (k + 1) - 1 ≡ 3 * k + 1 + 1 = omega arith in
+      rw (e, p, q, w, n)
+      (ap (λ (l : List ℕ). set l (3 * k + 1) (digit_in capital (get_or s k 0 % 16))) (more (3 * k) _ (omega arith) (high-there s k h))
+      ∙ more (3 * k + 1) _ (omega arith) (low-there s k h))
 
 -- ---- the whole label
 
@@ -75,15 +95,10 @@ pub label-length : (c : List ℕ) → length (label_text c) ≡ 3 * length c + 5
 unfolding label_text
 label-length c = length-print (with_crc c) ∙ omega (arith, length-with c)
 
--- code and CRC, laid into zeros one behind the other
-pub whole-laid : (c w v t d : List ℕ) → w ≡ pasted (replicate 18 0) 0 c → d ≡ spelled 2 (crc c) → v ≡ pasted w (length c) d
-    → t ≡ take (length c + 2) v → length c ≤ 16 → t ≡ with_crc c
+-- code and CRC, laid into an array one behind the other
+pub whole-laid : (c b r d : List ℕ) (k : ℕ) → b ≡ c → d ≡ spelled 2 (crc c) → take (length c + 2) (put_mid (length c) k (b ++ r) d) ≡ with_crc c
 unfolding with_crc
-whole-laid c w v t d p q s e h =
-    let first : w ≡ onto c (replicate 18 0) = pasted-onto w (replicate 18 0) c p (omega arith) in
-    let long : length w ≡ 18 = ap length first ∙ length-onto c (replicate 18 0) (omega arith) in
-    let two : length d ≡ 2 = ap length q in
-    let both : v ≡ paste w (length c) d 2 = pasted-whole v w (length c) d 2 s two (omega arith) in
-    let front : take (length c) w ≡ c = ap (take (length c)) first ∙ take_at c (drop (length c) (replicate 18 0)) (length c) refl in
-    e ∙ ap (take (length c + 2)) both ∙ take-paste w (length c) d 2 (omega arith) (omega arith)
-    ∙ ap₂ (λ (x y : List ℕ). x ++ y) front (take_all 2 d (omega arith) ∙ q)
+whole-laid c b r d k p q =
+    let n : length b ≡ length c = ap length p in
+    take-put_mid (length c) k (b ++ r) d (length c + 2) (omega (arith, ap length q)) (omega (arith, n, length-append b r))
+    ∙ ap₂ (λ (x y : List ℕ). x ++ y) (take_at b r (length c) n ∙ p) q

@@ -2,23 +2,26 @@
 -- counted and laid.
 -- Assumes nothing.
 use mathlib.Core.Path.{◌≡◌, refl, sym, ap, ap₂, ◌∙◌}
-use mathlib.Core.Bool.{Bool, true, false}
+use mathlib.Core.Bool.{Bool, true, false, not, cond}
 use mathlib.Core.List.{List, [], ◌∷◌, ◌++◌}
-use Prim.Native.Nat.{ℕ, zero, suc, ◌+◌, ◌<◌, ◌≤◌}
+use Prim.Native.Nat.{ℕ, ◌+◌, ◌<◌, ◌≤◌}
+use native.Mathlib.Nat.{zero-add}
 use native.Mathlib.Omega.{arith}
 use lib.Dec.{eqb}
-use lib.ListN.{length, get_or, set, take, drop, drop_of_length-le, length-drop, length-set}
+use lib.ListN.{length, get_or, set, take, drop}
 use lib.Seq.{take-length}
 use borrow.Author.Tests.{eqb-true, le-ltb}
+use Rattle.std.specs.List.{filter, enumerate_from}
+use Rattle.std.proofs.lemmas.List.{get_or_default}
+use Rattle.std.proofs.lemmas.List.FromFn.{length-enumerate_from, get_or-enumerate_from}
 use Rattle.std.specs.Prelude.{if◌then◌else◌}
 use Rattle.octets.specs.Choice.{both}
 use Rattle.octets.proofs.Choices.{both_true}
-use Rattle.octets.proofs.Tabs.{drop-step}
 use Rattle.octets.specs.Lists.{onto}
 use Rattle.text.proofs.Placed.{front-more}
 use Rattle.text.specs.Digits.{digit_of}
 use Rattle.labels.specs.declared.spelling.Next.{Next}
-use Rattle.labels.specs.declared.spelling.Next.TheVariants.{Octet, Digit, Behind, Wrong}
+use Rattle.labels.specs.declared.spelling.Next.TheVariants.{Octet, Digit, Behind}
 use Rattle.labels.specs.Reading.{separator, hex_digit, spells, digits_in}
 use Rattle.labels.specs.Code.{spells_on}
 
@@ -59,89 +62,46 @@ spells-on (a ∷ b ∷ []) = ap (both (hex_digit a)) (sym (both_true (hex_digit 
 spells-on (a ∷ b ∷ c ∷ s) =
     ap (λ t. both (hex_digit a) (both (hex_digit b) t)) (ap₂ (λ t u. if separator c then t else u) (spells-on s) (spells-on (c ∷ s)))
 
-pub wrong_stays : (s : List ℕ) → spells_on s Wrong ≡ false
+-- what is no digit may stand behind an octet alone, and only if it is a separator
+pub no-digit : (c : ℕ) (s : List ℕ) (n : Next) → hex_digit c ≡ false → (n ≡ Behind → separator c ≡ false) → spells_on (c ∷ s) n ≡ false
 unfolding spells_on
-wrong_stays [] = refl
-wrong_stays (c ∷ s) = refl
-
--- what is neither digit nor separator is wrong everywhere
-pub neither : (c : ℕ) (s : List ℕ) (n : Next) → separator c ≡ false → hex_digit c ≡ false → spells_on (c ∷ s) n ≡ spells_on s Wrong
-unfolding spells_on
-neither c s Octet p q = rw q (sym (wrong_stays s))
-neither c s Digit p q = rw q (sym (wrong_stays s))
-neither c s Behind p q = rw (p, q) (sym (wrong_stays s))
-neither c s Wrong p q = sym (wrong_stays s)
+no-digit c s Octet p q = rw p
+no-digit c s Digit p q = rw p
+no-digit c s Behind p q = rw (q refl, p)
 
 -- ---- its digits
 
-module _ (s : List ℕ) (i : ℕ) where
-  pub digits-pass : i < length s → separator (get_or s i 0) ≡ true → digits_in (drop i s) ≡ digits_in (drop (i + 1) s)
-  unfolding digits_in
-  digits-pass h e = rw (drop-step s i h, e)
-
-  pub digits-take : i < length s → separator (get_or s i 0) ≡ false → digits_in (drop i s) ≡ get_or s i 0 ∷ digits_in (drop (i + 1) s)
-  unfolding digits_in
-  digits-take h e = rw (drop-step s i h, e)
-
-  pub digits-end : length s ≤ i → digits_in (drop i s) ≡ []
-  unfolding digits_in
-  digits-end h = rw (drop_of_length-le s h)
-
--- nothing is left behind the last place of a text
-pub spells-end : (s : List ℕ) (i : ℕ) (n : Next) → length s ≤ i → spells_on (drop i s) n ≡ spells_on [] n
-spells-end s i n h = ap (λ l. spells_on l n) (drop_of_length-le s h)
+pub digits-filter : (s : List ℕ) → digits_in s ≡ filter (λ c. not (separator c)) s
+unfolding digits_in
+digits-filter [] = refl
+digits-filter (c ∷ s) = go (separator c) (digits-filter s)
+  where
+    go : (t : Bool) {l m : List ℕ} → l ≡ m → (if t then l else c ∷ l) ≡ cond (not t) (c ∷ m) m
+    go true e = e
+    go false e = ap (λ l. c ∷ l) e
 
 -- ---- its digits laid, one after the other
 
--- a list from place n on that begins with x has x there
-begins : (l : List ℕ) (n x : ℕ) (m : List ℕ) → drop n l ≡ x ∷ m → (n < length l) × (get_or l n 0 ≡ x) × (drop (n + 1) l ≡ m)
-begins [] n x m e = let z : length (drop n []) ≡ suc (length m) = ap length e in absurd (omega (arith, length-drop {A = ℕ} n []))
-begins (y ∷ l) zero x m e = (omega arith, ap (λ s. get_or s 0 0) e, ap (drop 1) e)
-begins (y ∷ l) (suc n) x m e =
-    let r = begins l n x m e in
-    let k : suc n + 1 ≡ suc (n + 1) = omega arith in
-    (omega arith, r.1, rw k r.2)
+-- what a chain that tells each digit of the text with its place has told at turn k
+pub digit-there : (s : List ℕ) (k n x : ℕ) → let all = enumerate_from 0 (filter (λ c. not (separator c)) s) in
+    (k < length all) × ((n, x) ≡ get_or all k (n, x)) → (k < length (digits_in s)) × (n ≡ k) × (x ≡ get_or (digits_in s) k 0)
+digit-there s k n x h =
+    let g = filter (λ c. not (separator c)) s in
+    let long : k < length g = omega (arith, h.0, length-enumerate_from 0 g) in
+    let there = h.1 ∙ get_or-enumerate_from 0 g k (n, x) long in
+    rw (digits-filter s) (long, ap (λ (p : ℕ × ℕ). p.0) there ∙ zero-add k, ap (λ (p : ℕ × ℕ). p.1) there ∙ get_or_default g k x 0 long)
 
--- of the text s that was read up to place i, n digits are laid at the front of what was o
-pub record Laid (s o : List ℕ) (i n : ℕ) (out : List ℕ) : Type 0 where
-  pub long : length out ≡ length o
-  pub left : drop n (digits_in s) ≡ digits_in (drop i s)
-  pub within : n ≤ length (digits_in s)
-  pub front : out ≡ take n (digits_in s) ++ drop n o
+pub digits-told : (s : List ℕ) → length (enumerate_from 0 (filter (λ c. not (separator c)) s)) ≡ length (digits_in s)
+digits-told s = length-enumerate_from 0 (filter (λ c. not (separator c)) s) ∙ ap length (sym (digits-filter s))
 
-module _ (s o : List ℕ) (i n : ℕ) (out : List ℕ) (w : Laid s o i n out) where
-  -- behind a separator
-  pub laid-pass : i < length s → separator (get_or s i 0) ≡ true → Laid s o (i + 1) n out
-  laid-pass h e = record { long = w.long; left = w.left ∙ digits-pass s i h e; within = w.within; front = w.front }
+-- a turn of the loop that lays its digit at the front of what was o
+pub laid-more : (s o out : List ℕ) (k m n x : ℕ) → out ≡ take k (digits_in s) ++ drop k o → k < length (digits_in s)
+    → length (digits_in s) ≤ length o → n ≡ k → x ≡ get_or (digits_in s) k 0 → m ≡ k + 1
+    → set out n x ≡ take m (digits_in s) ++ drop m o
+laid-more s o out k m n x e h r p q w = rw (e, p, q, w) (front-more o (digits_in s) k (omega arith) h)
 
-  module _ (h : i < length s) (e : separator (get_or s i 0) ≡ false) where
-    there : (n < length (digits_in s)) × (get_or (digits_in s) n 0 ≡ get_or s i 0) × (drop (n + 1) (digits_in s) ≡ digits_in (drop (i + 1) s))
-    there = begins (digits_in s) n (get_or s i 0) (digits_in (drop (i + 1) s)) (w.left ∙ digits-take s i h e)
-
-    -- there is a place for a digit
-    pub laid-room : length (digits_in s) ≤ length o → n < length out
-    laid-room r = omega (arith, there.0, w.long)
-
-    -- behind a digit
-    pub laid_more : length (digits_in s) ≤ length o → Laid s o (i + 1) (n + 1) (set out n (get_or s i 0))
-    laid_more r =
-        record {
-          long = length-set out n (get_or s i 0) ∙ w.long;
-          left = there.2;
-          within = omega (arith, there.0);
-          front =
-              ap₂ (λ (x : List ℕ) (v : ℕ). set x n v) w.front (sym there.1)
-              ∙ front-more o (digits_in s) n (omega (arith, there.0)) there.0;
-        }
-
-  -- at the end all are laid
-  pub laid-all : length s ≤ i → out ≡ onto (digits_in s) o
-  laid-all h =
-      let z : length (drop n (digits_in s)) ≡ 0 = ap length (w.left ∙ digits-end s i h) in
-      let k : n ≡ length (digits_in s) = omega (arith, length-drop n (digits_in s), w.within) in
-      w.front ∙ ap (λ (m : ℕ). take m (digits_in s) ++ drop m o) k
-      ∙ ap (λ (f : List ℕ). f ++ drop (length (digits_in s)) o) (take-length (digits_in s))
-
--- at first none is
-pub laid_none : (s o : List ℕ) → Laid s o 0 0 o
-laid_none s o = record { long = refl; left = refl; within = omega arith; front = refl }
+-- the text s, of which k digits are laid at the front of what was o
+pub laid-all : (s o out : List ℕ) (k : ℕ) → out ≡ take k (digits_in s) ++ drop k o → k ≡ length (digits_in s) → out ≡ onto (digits_in s) o
+laid-all s o out k e h =
+    e ∙ ap (λ (m : ℕ). take m (digits_in s) ++ drop m o) h
+    ∙ ap (λ (f : List ℕ). f ++ drop (length (digits_in s)) o) (take-length (digits_in s))

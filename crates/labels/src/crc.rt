@@ -14,28 +14,18 @@ pub(crate) fn crc_octets(code: &[u8]) -> [u8; 2]
 fn crc_of(s: &[u8]) -> u16
     ensures { result ≡ crc s.now }
 {
-    let mut c: u16 = 0xffff;
-    for i in 0..s.len() {
-        c = taken_in(c, s[i]);
-    }
-    c ^ 0xffff
+    s.iter().fold(0xffff, |c, &x| taken_in(c, x)) ^ 0xffff
 }
 
 fn taken_in(c: u16, x: u8) -> u16
     ensures { result ≡ taken_in c x }
 {
-    let mut r = c ^ (x as u16);
-    for _ in 0..8usize {
-        r = shifted(r);
-    }
-    r
+    (0..8usize).fold(c ^ u16::from(x), |r, _| shifted(r))
 }
 
+#[tactic(auto, unfolding(crate::specs::Crc::shifted))]
 fn shifted(c: u16) -> u16
     ensures { result ≡ shifted c }
 {
-    if c % 2 == 1 {
-        return (c / 2) ^ 0x8408;
-    }
-    c / 2
+    if c % 2 == 1 { (c / 2) ^ 0x8408 } else { c / 2 }
 }

@@ -5,66 +5,49 @@ ghost use Rattle.labels.specs.Answers.{told_printed};
 ghost use Rattle.labels.specs.Spelling.{capital, digit_in, in_print};
 ghost use Rattle.labels.specs.Printing.{as_printed, printing, print_label};
 
-use crate::Printed;
 use crate::codes::{MOST_OCTETS, code_length};
 use crate::crc::crc_octets;
 use answers::Refusal;
 
-// Prints the label of a code at the start of out: code and CRC in capitals, one space between octets.
-// Refused are a code of another length than 6, 8, 12 or 16 (15), then an output without room (1); out
-// is then as it stood.
-pub fn print_label(code: &[u8], out: &mut [u8]) -> Printed
+// Prints the label of a code at the start of out, code and CRC in capitals with one space between octets,
+// and answers how many octets the text has. Refused are a code of another length than 6, 8, 12 or 16 (15),
+// then an output without room (1); out is then as it stood.
+pub fn print_label(code: &[u8], out: &mut [u8]) -> Result<usize, Refusal>
     ensures { printing (told_printed result) out.new ≡ print_label code.now out.old }
 {
     let n = code.len();
     if !code_length(n) {
-        return Printed::Refused(Refusal::Label);
+        return Err(Refusal::Label);
     }
     if out.len() < 3 * n + 5 {
-        return Printed::Refused(Refusal::Room);
+        return Err(Refusal::Room);
     }
     let mut whole = [0u8; MOST_OCTETS];
-    octets::paste_at(&mut whole, 0, code);
-    let crc = crc_octets(code);
-    octets::paste_at(&mut whole, n, &crc);
-    lay_text(text::front(&whole, n + 2), out);
-    Printed::Text(3 * n + 5)
+    whole[..n].copy_from_slice(code);
+    whole[n..n + 2].copy_from_slice(&crc_octets(code));
+    lay_text(&whole[..n + 2], out);
+    Ok(3 * n + 5)
 }
 
-// The octets s in print, laid at the front of out.
+// The octets s in print, laid at the front of out: each has three places but the first, which has no space before it.
 fn lay_text(s: &[u8], out: &mut [u8])
     requires { 3 * length s.now ≤ length out.old + 1 }
     ensures { out.new ≡ onto (in_print as_printed s.now) out.old }
 {
-    let end = 3 * s.len();
-    for k in 1..end {
-        out[k - 1] = letter(s, k);
+    for (k, &x) in s.iter().enumerate() {
+        let at = 3 * k;
+        if 0 < k {
+            out[at - 1] = b' ';
+        }
+        out[at] = capital(x / 16);
+        out[at + 1] = capital(x % 16);
     }
 }
 
-// What stands at place k - 1 of the octets s in print, each of which has three places but the first,
-// which has no space before it.
-fn letter(s: &[u8], k: usize) -> u8
-    requires le_k { 1 ≤ k }
-    requires k_bound { k < 3 * length s.now }
-    ensures { result ≡ get_or (in_print as_printed s.now) (k - 1) 0 }
-{
-    let x = s[k / 3];
-    if k % 3 == 0 {
-        return b' ';
-    }
-    if k % 3 == 1 {
-        return capital(x / 16);
-    }
-    capital(x % 16)
-}
-
+#[tactic(auto, unfolding(crate::specs::Spelling::digit_in))]
 fn capital(d: u8) -> u8
     requires { d < 16 }
     ensures { result ≡ digit_in capital d }
 {
-    if d < 10 {
-        return b'0' + d;
-    }
-    b'A' + (d - 10)
+    if d < 10 { b'0' + d } else { b'A' + (d - 10) }
 }

@@ -1,97 +1,56 @@
 // The text of a label: whether it spells octets, and its digits.
-ghost use Rattle.std.specs.Prelude.{◌≡◌, true, List, [], ◌∷◌, ℕ, ◌≤◌, length};
+ghost use Rattle.std.specs.Prelude.{◌≡◌, List, ◌∷◌, ℕ, ◌≤◌, length};
 ghost use Rattle.octets.specs.Lists.{onto};
-ghost use Rattle.labels.specs.Reading.{separator, hex_digit, spells, digits_in};
-ghost use Rattle.labels.specs.Code.{spells_on};
+ghost use Rattle.labels.specs.Reading.{separator, spells, digits_in};
+ghost use Rattle.labels.specs.Code.{spells_on, spells_from};
 
-// What is to come next in a text: an octet, the second digit of one, or what is behind one; or that
-// something was wrong.
-#[derive(Clone, Copy)]
+// What is to come next in a text that spells octets so far: an octet, the second digit of one, or what is
+// behind one.
+#[derive(Clone, Copy, PartialEq, Eq)]
 pub enum Next {
     Octet,
     Digit,
     Behind,
-    Wrong,
 }
 
-// Whether s spells octets.
+// Whether s spells octets: it ends behind one.
 pub(crate) fn spells(s: &[u8]) -> bool
     ensures { result ≡ spells s.now }
 {
     let mut next = Next::Octet;
-    for i in 0..s.len() {
-        next = step(next, s[i]);
+    for &c in s {
+        let Some(then) = step(next, c) else {
+            return false;
+        };
+        next = then;
     }
-    may_end(next)
+    next == Next::Behind
 }
 
-// A text ends behind an octet.
-fn may_end(next: Next) -> bool
-    ensures { result ≡ spells_on [] next }
+// What is to come behind c, if it may stand there.
+fn step(next: Next, c: u8) -> Option<Next>
+    ensures { (s : List ℕ) → spells_on (c ∷ s) next ≡ spells_from s result }
 {
     match next {
-        Next::Octet => false,
-        Next::Digit => false,
-        Next::Behind => true,
-        Next::Wrong => false,
+        Next::Behind if is_separator(c) => Some(Next::Octet),
+        _ if text::digit(c) == 16 => None,
+        Next::Octet | Next::Behind => Some(Next::Digit),
+        Next::Digit => Some(Next::Behind),
     }
 }
 
-fn step(next: Next, c: u8) -> Next
-    ensures { (s : List ℕ) → spells_on (c ∷ s) next ≡ spells_on s result }
-{
-    if is_separator(c) {
-        return past_separator(next);
-    }
-    if text::digit(c) == 16 {
-        return Next::Wrong;
-    }
-    past_digit(next)
-}
-
-fn past_separator(next: Next) -> Next
-    ensures { (c : ℕ) (s : List ℕ) → separator c ≡ true → spells_on (c ∷ s) next ≡ spells_on s result }
-{
-    match next {
-        Next::Octet => Next::Wrong,
-        Next::Digit => Next::Wrong,
-        Next::Behind => Next::Octet,
-        Next::Wrong => Next::Wrong,
-    }
-}
-
-fn past_digit(next: Next) -> Next
-    ensures { (c : ℕ) (s : List ℕ) → hex_digit c ≡ true → spells_on (c ∷ s) next ≡ spells_on s result }
-{
-    match next {
-        Next::Octet => Next::Digit,
-        Next::Digit => Next::Behind,
-        Next::Behind => Next::Digit,
-        Next::Wrong => Next::Wrong,
-    }
-}
-
+#[tactic(auto, unfolding(crate::specs::Reading::separator))]
 fn is_separator(c: u8) -> bool
     ensures { result ≡ separator c }
 {
-    match c {
-        b' ' => true,
-        b'-' => true,
-        _ => false,
-    }
+    matches!(c, b' ' | b'-')
 }
 
 // How many digits s has: all but the separators.
 pub(crate) fn count_digits(s: &[u8]) -> usize
     ensures { result ≡ length (digits_in s.now) }
 {
-    let mut n: usize = 0;
-    for i in 0..s.len() {
-        if !is_separator(s[i]) {
-            n += 1;
-        }
-    }
-    n
+    s.iter().filter(|&&c| !is_separator(c)).count()
 }
 
 // Lays these digits at the front of out.
@@ -99,12 +58,7 @@ pub(crate) fn lay_digits(s: &[u8], out: &mut [u8])
     requires { length (digits_in s.now) ≤ length out.old }
     ensures { out.new ≡ onto (digits_in s.now) out.old }
 {
-    let mut n: usize = 0;
-    for i in 0..s.len() {
-        let c = s[i];
-        if !is_separator(c) {
-            out[n] = c;
-            n += 1;
-        }
+    for (n, &c) in s.iter().filter(|&&c| !is_separator(c)).enumerate() {
+        out[n] = c;
     }
 }

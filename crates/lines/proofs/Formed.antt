@@ -1,4 +1,4 @@
--- Laws of judging a line by its form: a turn of each loop that does it, and its end.
+-- Laws of judging a line by its form: how many rows a table has, and where what is found stands.
 -- Assumes nothing.
 use Rattle.std.proofs.Common.{◌≡◌, ℕ, zero, suc, ◌+◌, ◌/◌, ◌≤◌, Bool, true, false, not, eqb, List, [], ◌∷◌, length, refl, zero-add, arith, unwrap_or, Some, None, leb, leb-false}
 use Rattle.std.specs.List.{find, position, range_with_len}
@@ -35,9 +35,11 @@ found-from p a (suc n) = let next : a + 1 + n ≡ a + suc n = omega arith in go 
 pub found-within : (p : ℕ → Bool) (n : ℕ) → unwrap_or (find p (range_with_len 0 n)) n ≤ n
 found-within p n = simp zero-add at (found-from p 0 n)
 
+-- the place that is found, or the one behind all of them
 pub place_is : (f s : List ℕ) → unwrap_or (position (λ x. among x s) f) (length f) ≡ place_of f s
 place_is f s = go (leb (suc (place_of f s)) (length f)) refl
   where
-    go : (t : Bool) → leb (suc (place_of f s)) (length f) ≡ t → unwrap_or (if t then Some (place_of f s) else None) (length f) ≡ place_of f s
+    go : (t : Bool) → leb (suc (place_of f s)) (length f) ≡ t
+        → unwrap_or (if t then Some (place_of f s) else None) (length f) ≡ place_of f s
     go true e = refl
     go false e = omega (arith, leb-false (suc (place_of f s)) (length f) e, prefix_len-le-length (λ x. not (among x s)) f)

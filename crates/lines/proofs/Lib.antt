@@ -5,3 +5,4 @@ pub mod Formed
 pub mod Turned
 pub mod Refusing
 pub mod Spelt
+pub mod Lending

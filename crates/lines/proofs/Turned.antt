@@ -1,22 +1,16 @@
 -- Laws of the reader's functions: what is left of a chunk, by its length, and a turn behind the begun line.
 -- Assumes nothing.
-use Rattle.std.proofs.Common.{◌≡◌, ℕ, zero, suc, Bool, true, false, eqb, leb, List, [], ◌∷◌, length, drop, sym, refl, ap, ◌∙◌, arith, ne_eqb, le-leb, leb-false, leb-true}
+use Rattle.std.proofs.Common.{◌≡◌, ℕ, zero, suc, Bool, eqb, leb, List, [], ◌∷◌, length, drop, sym, refl, ap, ◌∙◌, arith, ne_eqb, le-leb}
 use borrow.Author.Tests.{lt-leb}
+use Rattle.lines.proofs.Fed.{suc-leb}
 use Rattle.lines.specs.Reading.{Held, Reached, reached, read_on, stopped}
 use Rattle.lines.specs.declared.reading.Stop.{Stop}
 use Rattle.lines.specs.Passing.{Standing, stands, empty, begun, turned}
 
-pub empty-none : (l : List ℕ) → eqb (length l) 0 ≡ empty l
+pub empty_none : (l : List ℕ) → eqb (length l) 0 ≡ empty l
 unfolding empty
-empty-none [] = refl
-empty-none (c ∷ l) = ne_eqb (suc (length l)) 0 (λ e. omega (arith, e))
-
-suc-leb : (m n : ℕ) → leb (suc m) (suc n) ≡ leb m n
-suc-leb m n = go (leb m n) refl
-  where
-    go : (t : Bool) → leb m n ≡ t → leb (suc m) (suc n) ≡ t
-    go true e = le-leb (suc m) (suc n) (omega (arith, leb-true m n e))
-    go false e = lt-leb (suc m) (suc n) (omega (arith, leb-false m n e))
+empty_none [] = refl
+empty_none (c ∷ l) = ne_eqb (suc (length l)) 0 (λ e. omega (arith, e))
 
 pub empty_left : (l : List ℕ) (i : ℕ) → leb (length l) i ≡ empty (drop i l)
 unfolding empty

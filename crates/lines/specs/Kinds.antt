@@ -35,7 +35,7 @@ abbrev pub none : List ℕ
 none = 110 ∷ 111 ∷ 110 ∷ 101 ∷ []
 
 -- l is hex of whole octets
-unfoldable pub whole_hex : List ℕ → Bool
+abbrev pub whole_hex : List ℕ → Bool
 whole_hex l = both (length l % 2 == 0) (all_digits 16 l)
 
 -- so many, which are to be so many at least and at most

@@ -29,6 +29,11 @@ fed n h c =
     then holds (h.octets ++ (c ∷ [])) h.long
     else holds h.octets true
 
+-- and all of these octets more
+unfoldable pub all_fed : ℕ → Held → List ℕ → Held
+all_fed n h [] = h
+all_fed n h (c ∷ l) = all_fed n (fed n h c) l
+
 -- where reading stopped: the line, whether its line feed was met, and what is left of the chunk
 pub record Reached : Type 0 where
   pub line : Held

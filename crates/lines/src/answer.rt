@@ -1,5 +1,5 @@
 // An answer that is being written, by value: each method adds one field.
-ghost use Rattle.std.specs.Prelude.{◌≡◌, [], ◌∷◌};
+ghost use Rattle.std.specs.Prelude.{◌≡◌, []};
 ghost use Rattle.text.specs.Decimal.{decimal as spelt};
 ghost use Rattle.text.specs.Hex.{hex_of, address as addressed};
 ghost use Rattle.lines.specs.Answer.{room, said, written, more, field, whole_line};
@@ -28,44 +28,47 @@ impl Answer {
     }
 
     // A field more, behind a tab. What has no room is left out.
-    pub fn word(self, w: &[u8]) -> Self
+    pub fn word(mut self, w: &[u8]) -> Self
         ensures { said result ≡ field (said self) w.now }
     {
-        self.tabbed().with(w)
+        self.push(b"\t");
+        self.push(w);
+        self
     }
 
-    pub fn decimal(self, x: u64) -> Self
+    pub fn decimal(mut self, x: u64) -> Self
         ensures { said result ≡ field (said self) (spelt x) }
     {
-        self.tabbed().with_decimal(x)
+        self.push(b"\t");
+        self.push_decimal(x);
+        self
     }
 
-    pub fn address(self, x: u64) -> Self
+    pub fn address(mut self, x: u64) -> Self
         ensures { said result ≡ field (said self) (addressed x) }
     {
-        self.tabbed().with_address(x)
+        self.push(b"\t");
+        self.push_address(x);
+        self
     }
 
-    pub fn hex(self, src: &[u8]) -> Self
+    pub fn hex(mut self, src: &[u8]) -> Self
         ensures { said result ≡ field (said self) (hex_of src.now) }
     {
-        self.tabbed().with_hex(src)
-    }
-
-    fn tabbed(self) -> Self
-        ensures { said result ≡ more room (said self) (9 ∷ []) }
-    {
-        self.with(b"\t")
+        self.push(b"\t");
+        self.push_hex(src);
+        self
     }
 
     // The line that is written: all of it has room, whatever the number and the answer.
     pub fn whole_line(&self, number: u64) -> Whole
         ensures { written result ≡ whole_line number (said self.now) }
     {
-        Octets::new()
-            .with_decimal(number)
-            .with(b"\t")
-            .with(self.as_slice())
-            .with(b"\n")
+        let mut line = Octets::new();
+        line.push_decimal(number);
+        line.push(b"\t");
+        line.push(self.as_slice());
+        line.push(b"\n");
+        line
     }
 }

@@ -57,36 +57,40 @@ impl<const N: usize> Octets<N> {
     pub fn with(mut self, s: &[u8]) -> Self
         ensures { said result ≡ more N (said self.entry) s.now }
     {
+        self.push(s);
+        self
+    }
+
+    // The same in place.
+    pub fn push(&mut self, s: &[u8])
+        ensures { said self.new ≡ more N (said self.old) s.now }
+    {
         let at = self.n;
         self.n = text::put(&mut self.octets, at, s);
-        self
     }
 
     // A number in decimal behind them.
-    pub fn with_decimal(mut self, x: u64) -> Self
-        ensures { said result ≡ more N (said self.entry) (spelt x) }
+    pub fn push_decimal(&mut self, x: u64)
+        ensures { said self.new ≡ more N (said self.old) (spelt x) }
     {
         let at = self.n;
         self.n = text::put_decimal(&mut self.octets, at, x);
-        self
     }
 
     // An address in hex behind them.
-    pub fn with_address(mut self, x: u64) -> Self
-        ensures { said result ≡ more N (said self.entry) (addressed x) }
+    pub fn push_address(&mut self, x: u64)
+        ensures { said self.new ≡ more N (said self.old) (addressed x) }
     {
         let at = self.n;
         self.n = text::put_address(&mut self.octets, at, x);
-        self
     }
 
     // Octets in hex behind them.
-    pub fn with_hex(mut self, src: &[u8]) -> Self
-        ensures { said result ≡ more N (said self.entry) (hex_of src.now) }
+    pub fn push_hex(&mut self, src: &[u8])
+        ensures { said self.new ≡ more N (said self.old) (hex_of src.now) }
     {
         let at = self.n;
         self.n = text::put_hex(&mut self.octets, at, src);
-        self
     }
 }
 

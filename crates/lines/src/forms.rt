@@ -76,7 +76,7 @@ fn protection_value(s: &[u8]) -> Option<u64>
     decimal_value(s, 255)
 }
 
-#[tactic(auto, using(octets::proofs::Choices::tests), unfolding(crate::specs::Kinds::value_of, crate::specs::Kinds::whole_hex))]
+#[tactic(auto, using(octets::proofs::Choices::tests), unfolding(crate::specs::Kinds::value_of))]
 fn hex_value(s: &[u8], least: usize, most: usize) -> Option<u64>
     ensures { result ≡ value_of (kinds.Hex least most) s.now }
 {
@@ -140,6 +140,7 @@ fn is_row(table: &[u8], r: usize, line: &[u8], k: usize) -> bool
 
 // The numbers of the first eight fields, each at its field's place; 0 for a bad field, and for one
 // that the form does not have.
+#[tactic(auto, using(octets::proofs::Filled::all), unfolding(crate::specs::Forms::worth_at, crate::specs::Forms::value_at))]
 pub fn numbers_of(line: &[u8], form: &[u8]) -> [u64; 8]
     ensures { result ≡ tab 8 (worth_at line.now form.now) }
 {
@@ -154,6 +155,7 @@ fn value_at(line: &[u8], form: &[u8], i: usize) -> Option<u64>
 }
 
 // The first place of the form that has one of those letters, or the place behind it.
+#[tactic(auto, using(crate::proofs::Formed::place_is))]
 pub(crate) fn place_of(form: &[u8], letters: &[u8]) -> usize
     ensures { result ≡ place_of form.now letters.now }
 {

@@ -29,8 +29,9 @@ impl Reader {
     }
 
     // Whether all of the chunk was read, so that the next one is wanted.
-    pub fn is_spent(self, chunk: &[u8]) -> bool
-        ensures { (b : List ℕ) → result ≡ spent (standing self chunk.now b) }
+    #[tactic(auto, using(crate::proofs::Turned::empty_left), unfolding(crate::specs::Passing::spent))]
+    pub fn is_spent(&self, chunk: &[u8]) -> bool
+        ensures { (b : List ℕ) → result ≡ spent (standing self.now chunk.now b) }
     {
         text::front(chunk, self.to).len() <= self.stop.from
     }
@@ -48,6 +49,7 @@ impl Reader {
     }
 
     // The next chunk is the first n octets of that; where these are none the input has ended.
+    #[tactic(auto, using(crate::proofs::Turned::empty_none), unfolding(crate::specs::Passing::filled))]
     pub fn refilled(self, chunk: &[u8], n: usize) -> Self
         ensures { (l b : List ℕ) → standing result chunk.now b ≡ filled (standing self l b) (take n chunk.now) }
     {
@@ -66,13 +68,15 @@ impl Reader {
     }
 
     // Whether the line is to be answered now: it has ended, by its line feed or with the input.
-    pub fn is_due(self) -> bool
-        ensures { (l b : List ℕ) → result ≡ due (standing self l b) }
+    #[tactic(auto, unfolding(crate::specs::Passing::due))]
+    pub fn is_due(&self) -> bool
+        ensures { (l b : List ℕ) → result ≡ due (standing self.now l b) }
     {
         self.stop.ended || !self.live
     }
 
     // The next line, where one has ended.
+    #[tactic(auto, unfolding(crate::specs::Passing::begun, crate::specs::Passing::number_after))]
     fn begun_line(self) -> Self
         ensures { (l b : List ℕ) → standing result l b ≡ begun (standing self l b) }
     {

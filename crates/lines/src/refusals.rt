@@ -12,10 +12,10 @@ use answers::Refusal;
 pub fn refused(why: Refusal) -> Answer
     ensures { said result ≡ refusal why }
 {
-    let n = answers::number(why);
+    let n = u8::from(why);
     let word = text::field(
         b"\troom\tlong\tshort\tform\tsecurity\tnokey\ttop\tstale\tforged\tfull\tcommand\tprotection\tabsent\targument\tlabel\tcrc\tmark",
-        n as usize,
+        usize::from(n),
     );
-    Answer::first(b"refused").decimal(n as u64).word(word)
+    Answer::first(b"refused").decimal(u64::from(n)).word(word)
 }

@@ -1,5 +1,6 @@
 -- Opening under a key, of what its calls answered.
 -- Assumes nothing.
+use Rattle.std.proofs.Common.{Option, Some, None}
 use mathlib.Core.Path.{◌≡◌, refl, sym, ap, ap₂, ◌∙◌}
 use mathlib.Core.Bool.{Bool, true}
 use mathlib.Core.List.{List}
@@ -20,12 +21,8 @@ use Rattle.frames.specs.declared.Layer.TheVariants.{Network}
 use Rattle.frames.specs.declared.Secured.{Secured}
 use Rattle.frames.specs.Reading.{secured, reading}
 use Rattle.frames.proofs.Found.{secured-frame}
-use Rattle.board.specs.declared.Place.{Place}
-use Rattle.board.specs.declared.Place.TheVariants.{At, Absent}
 use Rattle.board.specs.Rows.{Lists}
 use Rattle.board.proofs.Found.{row-place}
-use Rattle.seals.specs.declared.Unsealed.{Unsealed}
-use Rattle.seals.specs.declared.Unsealed.TheVariants.{Plain, Forged}
 use Rattle.seals.specs.Sealing.{Fair, message_of, is_valid, genuine, told_unsealed, sound, unsealing, looking}
 use Rattle.seals.proofs.Opened.{tells-sound}
 use Rattle.seals.proofs.Tells.{plain-tells, forged-tells}
@@ -41,20 +38,20 @@ module _ (z : Settings) (k : Key) (f : List ℕ) (s : Secured) where
 
   module _ (fair : Fair z) (w : Lent) (t : sound z f s ≡ true) (room : longest ≤ length w.out) where
     -- the tag fits, and row r was put
-    pub admit-plain : (u : Unsealed) (n r : ℕ) (p : List ℕ) → u ≡ Plain n
+    pub admit-plain : (u : Option ℕ) (n r : ℕ) (p : List ℕ) → u ≡ Some n
         → product (told_unsealed u) p ≡ unsealing z k Network f s w.out
         → leaving (opened n s.sender (under 1)) (record { lists = with_row w.lists r s.sender (s.counter + 1); out = p })
-        ≡ admitted f s w (message_of z k f s) (At r)
+        ≡ admitted f s w (message_of z k f s) (Some r)
     unfolding admitted
     admit-plain u n r p eu e =
         let m = plain-tells z fair k Network f s w.out t room u n p eu e in
         ap₂ (λ (x : ℕ) (y : List ℕ).
         leaving (opened x s.sender (under 1)) (record { lists = with_row w.lists r s.sender (s.counter + 1); out = y }))
         m.count m.laid
-        ∙ sym (ap (λ (x : Verdict). admitted f s w x (At r)) m.fits)
+        ∙ sym (ap (λ (x : Verdict). admitted f s w x (Some r)) m.fits)
 
     -- the tag does not fit
-    pub admit-forged : (u : Unsealed) (q : Place) (p : List ℕ) → u ≡ Forged
+    pub admit-forged : (u : Option ℕ) (q : Option ℕ) (p : List ℕ) → u ≡ None
         → product (told_unsealed u) p ≡ unsealing z k Network f s w.out
         → leaving (turned_down 9) (record { lists = w.lists; out = p }) ≡ admitted f s w (message_of z k f s) q
     unfolding admitted
@@ -65,33 +62,33 @@ module _ (z : Settings) (k : Key) (f : List ℕ) (s : Secured) where
 
   -- there is no row: 9 comes before 10
   pub away : sound z f s ≡ true → (b : Bool) → looking z k f s ≡ b
-      → (w : Lent) → leaving (turned_down (if b then 10 else 9)) w ≡ admitted f s w (message_of z k f s) Absent
+      → (w : Lent) → leaving (turned_down (if b then 10 else 9)) w ≡ admitted f s w (message_of z k f s) None
   unfolding looking genuine admitted
   away t b e w =
       ap (λ (x : Bool). leaving (turned_down (if x then 10 else 9)) w) (sym e ∙ ap (λ (x : Bool). both x (is_valid (message_of z k f s))) t)
       ∙ go (message_of z k f s)
     where
-      go : (m : Verdict) → leaving (turned_down (if is_valid m then 10 else 9)) w ≡ admitted f s w m Absent
+      go : (m : Verdict) → leaving (turned_down (if is_valid m then 10 else 9)) w ≡ admitted f s w m None
       go (valid m) = refl
       go invalid = refl
 
   -- ---- 8: the sender's row is looked for once, and floor and row go by it
 
   module _ (m i : ℕ) (w : Lent) (below : s.counter ≡ top → ⊥) where
-    pub under-heard : (r : ℕ) → row_of m w.lists i s.sender ≡ At r → opened_heard z k r f s w ≡ opened_under z m k i f s w
+    pub under-heard : (r : ℕ) → row_of m w.lists i s.sender ≡ Some r → opened_heard z k r f s w ≡ opened_under z m k i f s w
     unfolding opened_heard opened_under floor_of row_for
     under-heard r e = simp (ne_eqb _ _ below, e)
 
-    pub under-new : row_of m w.lists i s.sender ≡ Absent
+    pub under-new : row_of m w.lists i s.sender ≡ None
         → admitted f s w (message_of z k f s) (row_of m w.lists i 0) ≡ opened_under z m k i f s w
     unfolding opened_under floor_of row_for
     under-new e = simp (ne_eqb _ _ below, e, le-ltb s.counter 0 (omega arith))
 
 -- the row that was found is one that the list has
-pub row-there : (m : ℕ) (w : Lists) (i a r : ℕ) → row_for m w i a ≡ At r → r < length w.addrs
+pub row-there : (m : ℕ) (w : Lists) (i a r : ℕ) → row_for m w i a ≡ Some r → r < length w.addrs
 unfolding row_for
 row-there m w i a r e = go (row_of m w i a) refl e
   where
-    go : (p : Place) → row_of m w i a ≡ p → or_free m w i p ≡ At r → r < length w.addrs
-    go (At q) d e = row-place w.addrs (i * m) m a r (d ∙ e)
-    go Absent d e = row-place w.addrs (i * m) m 0 r e
+    go : (p : Option ℕ) → row_of m w i a ≡ p → or_free m w i p ≡ Some r → r < length w.addrs
+    go (Some q) d e = row-place w.addrs (i * m) m a r (d ∙ e)
+    go None d e = row-place w.addrs (i * m) m 0 r e

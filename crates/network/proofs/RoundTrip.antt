@@ -1,6 +1,7 @@
 -- Demand 2 at the network layer: what was sealed opens, at any board that finds the same key for it and has no other cause to
 -- refuse, to the same plain frame, with the sender, counter and protection of the seal. The causes are document 01's checks.
 -- Assumes nothing.
+use Rattle.std.proofs.Common.{Option, Some}
 use mathlib.Core.Path.{◌≡◌, refl, sym, ap, ap₂, subst, ◌∙◌}
 use mathlib.Core.Bool.{true, false}
 use mathlib.Core.List.{List}
@@ -23,8 +24,6 @@ use Rattle.frames.specs.declared.Layer.TheVariants.{Network}
 use Rattle.frames.specs.declared.Secured.{Secured}
 use Rattle.frames.proofs.Found.{plain-to-seal}
 use Rattle.board.specs.declared.Board.{Board}
-use Rattle.board.specs.declared.Place.{Place}
-use Rattle.board.specs.declared.Place.TheVariants.{At}
 use Rattle.board.specs.Sending.{spent, Framed}
 use Rattle.board.specs.Rows.{lists_fit, half}
 use Rattle.board.specs.State.{slot_at}
@@ -32,7 +31,6 @@ use Rattle.board.specs.Requests.{slot_of}
 use Rattle.seals.specs.Sealing.{Fair, sent_octets, sealed_frame}
 use Rattle.seals.proofs.Again.{ToSeal, announcing, read_again, message-again, plain-again, length-again}
 use Rattle.network.proofs.Ways.{Sealing, frame_sent, frame-length, seal-ways}
-use Rattle.board.specs.declared.Active.TheVariants as actives
 
 -- ---- one frame
 
@@ -41,10 +39,10 @@ use Rattle.board.specs.declared.Active.TheVariants as actives
 pub record Opens (z : Settings) (key : Key) (n a q : ℕ) (c : Board) (w : Lent) (j r : ℕ) : Type 0 where
   pub lists : lists_fit w.lists ≡ true
   pub room : longest ≤ length w.out
-  pub found : slot_of c.slots q ≡ At j
+  pub found : slot_of c.slots q ≡ Some j
   pub same : the_key (slot_at c.slots j).key ≡ key
   pub fresh : floor_of (half w.lists) w.lists j a ≤ n
-  pub row : row_for (half w.lists) w.lists j a ≡ At r
+  pub row : row_for (half w.lists) w.lists j a ≡ Some r
 
 -- the plain frame f opened, and row r has the sender a and the floor behind counter n
 abbrev pub opened_with : List ℕ → ℕ → ℕ → Lent → ℕ → Opening
@@ -67,7 +65,7 @@ module _ (z : Settings) (fair : Fair z) (key : Key) (f : List ℕ) (h n a q : �
   plain-count = let w = (plain-to-seal Network f h p.unsecured).within in omega (arith, length-drop h f)
 
   module _ (c : Board) (w : Lent) (j r : ℕ) (t : Opens z key n a q c w j r) where
-    opened-row : admitted g s w (valid (drop h f)) (At r) ≡ opened_with f n a w r
+    opened-row : admitted g s w (valid (drop h f)) (Some r) ≡ opened_with f n a w r
     unfolding admitted
     opened-row =
         ap₂ (λ (x : ℕ) (y : List ℕ).
@@ -78,9 +76,9 @@ module _ (z : Settings) (fair : Fair z) (key : Key) (f : List ℕ) (h n a q : �
     unfolding opened_under
     unsealed =
         simp (ne_eqb _ _ below, le-ltb _ _ t.fresh)
-        (ap₂ (λ (x : Verdict) (y : Place). admitted g s w x y) (message-again z key q p fair) t.row ∙ opened-row)
+        (ap₂ (λ (x : Verdict) (y : Option ℕ). admitted g s w x y) (message-again z key q p fair) t.row ∙ opened-row)
 
-    keyed : opened_keyed z (half w.lists) c.slots g s w (At j) ≡ opened_with f n a w r
+    keyed : opened_keyed z (half w.lists) c.slots g s w (Some j) ≡ opened_with f n a w r
     unfolding opened_keyed
     keyed = ap (λ (x : Key). opened_under z (half w.lists) x j g s w) t.same ∙ unsealed
 
@@ -111,7 +109,7 @@ seal-tells z b f o m =
 
 -- the frame that b sealed under its active slot i, opened by c
 pub round_trip : (z : Settings) → Fair z → (b : Board) (f o : List ℕ) (m i : ℕ) → Octets f → b.outgoing < 2 ^ 32 → b.own < 2 ^ 64
-    → no_address b.own ≡ false → (seal_network z b f o).answer ≡ sealed m → b.active ≡ actives.Slot i
+    → no_address b.own ≡ false → (seal_network z b f o).answer ≡ sealed m → b.active ≡ Some i
     → (c : Board) (w : Lent) (j r : ℕ)
     → Opens z (the_key (slot_at b.slots i).key) b.outgoing b.own (slot_at b.slots i).seq c w j r
     → open_network z c (take m (seal_network z b f o).out) w ≡ opened_with f b.outgoing b.own w r

@@ -1,5 +1,6 @@
 -- The ways in which opening and sealing end, each once: what holds of every way out holds of the request.
 -- Assumes nothing.
+use Rattle.std.proofs.Common.{Option, Some, None}
 use mathlib.Core.Path.{◌≡◌, refl}
 use mathlib.Core.Bool.{true, not}
 use mathlib.Core.List.{List}
@@ -22,9 +23,6 @@ use Rattle.frames.specs.declared.Secured.{Secured}
 use Rattle.frames.specs.Reading.{Reading, refused, plain, secured, reading, PlainReading, unread, headed, reading_plain}
 use Rattle.frames.proofs.Found.{plain-to-seal}
 use Rattle.board.specs.declared.Board.{Board}
-use Rattle.board.specs.declared.Active.{Active}
-use Rattle.board.specs.declared.Place.{Place}
-use Rattle.board.specs.declared.Place.TheVariants.{At, Absent}
 use Rattle.board.specs.Rows.{lists_fit, half}
 use Rattle.board.specs.State.{slot_at}
 use Rattle.board.specs.Requests.{slot_of}
@@ -32,7 +30,6 @@ use Rattle.board.specs.Sending.{spent, Framed, framed}
 use Rattle.board.proofs.Sends.{by-sending}
 use Rattle.seals.specs.Sealing.{message_of, sent_octets, sealed_frame}
 use Rattle.seals.proofs.Securing.{sealed-length}
-use Rattle.board.specs.declared.Active.TheVariants as actives
 
 -- ---- opening
 
@@ -40,9 +37,9 @@ module _ (z : Settings) (b : Board) (f : List ℕ) (w : Lent) where
   -- a secured frame that passed every check, under slot i and with row r
   pub record Passed (s : Secured) (i r : ℕ) : Type 0 where
     pub read : reading z Network f 0 ≡ secured s
-    pub found : slot_of b.slots s.sequence ≡ At i
+    pub found : slot_of b.slots s.sequence ≡ Some i
     pub least : floor_of (half w.lists) w.lists i s.sender ≤ s.counter
-    pub row : row_for (half w.lists) w.lists i s.sender ≡ At r
+    pub row : row_for (half w.lists) w.lists i s.sender ≡ Some r
 
   pub open-ways : (P : Opening → Type 0) → ((n : ℕ) → P (leaving (turned_down n) w))
       → ((n : ℕ) (p : List ℕ) → reading z Network f 0 ≡ plain n
@@ -56,17 +53,17 @@ module _ (z : Settings) (b : Board) (f : List ℕ) (w : Lent) where
       choose P (ltb longest (length f)) _ _ (λ _. down 2) λ _.
       read (reading z Network f 0) refl
     where
-      admit : (s : Secured) (i : ℕ) → reading z Network f 0 ≡ secured s → slot_of b.slots s.sequence ≡ At i
-          → floor_of (half w.lists) w.lists i s.sender ≤ s.counter → (v : Verdict) (p : Place) → row_for (half w.lists) w.lists i s.sender ≡ p
+      admit : (s : Secured) (i : ℕ) → reading z Network f 0 ≡ secured s → slot_of b.slots s.sequence ≡ Some i
+          → floor_of (half w.lists) w.lists i s.sender ≤ s.counter → (v : Verdict) (p : Option ℕ) → row_for (half w.lists) w.lists i s.sender ≡ p
           → P (admitted f s w v p)
       admit s i e g h invalid p q = down 9
-      admit s i e g h (valid d) Absent q = down 10
-      admit s i e g h (valid d) (At r) q = passed s i r _ _ (record { read = e; found = g; least = h; row = q })
+      admit s i e g h (valid d) None q = down 10
+      admit s i e g h (valid d) (Some r) q = passed s i r _ _ (record { read = e; found = g; least = h; row = q })
 
-      keyed : (s : Secured) → reading z Network f 0 ≡ secured s → (p : Place) → slot_of b.slots s.sequence ≡ p
+      keyed : (s : Secured) → reading z Network f 0 ≡ secured s → (p : Option ℕ) → slot_of b.slots s.sequence ≡ p
           → P (opened_keyed z (half w.lists) b.slots f s w p)
-      keyed s e Absent g = down 6
-      keyed s e (At i) g =
+      keyed s e None g = down 6
+      keyed s e (Some i) g =
           choose P (eqb s.counter top) _ _ (λ _. down 7) λ _.
           choose P (ltb s.counter (floor_of (half w.lists) w.lists i s.sender)) _ _ (λ _. down 8) λ h.
           admit s i e g (ltb-false _ _ h) (message_of z (the_key (slot_at b.slots i).key) f s) (row_for (half w.lists) w.lists i s.sender) refl
@@ -83,7 +80,7 @@ module _ (z : Settings) (b : Board) (f : List ℕ) where
   -- counter that is not the top and is below the mark
   pub record Sealing : Type 0 where
     pub slot : ℕ
-    pub active : b.active ≡ actives.Slot slot
+    pub active : b.active ≡ Some slot
     pub among : slot ≤ 1
     pub present : (slot_at b.slots slot).present ≡ true
     pub header : ℕ
@@ -109,9 +106,9 @@ module _ (z : Settings) (b : Board) (f : List ℕ) where
       choose P (ltb (longest_plain z) (length f)) _ _ (λ _. down 2) λ q.
       read (ltb-false _ _ q) (reading_plain Network f) refl
     where
-      by : (h : ℕ) → reading_plain Network f ≡ headed h → length f ≤ longest_plain z → (x : Active) → b.active ≡ x → P (sealed_by z b f o h x)
-      by h e k actives.Nobody a = down 6
-      by h e k (actives.Slot i) a =
+      by : (h : ℕ) → reading_plain Network f ≡ headed h → length f ≤ longest_plain z → (x : Option ℕ) → b.active ≡ x → P (sealed_by z b f o h x)
+      by h e k None a = down 6
+      by h e k (Some i) a =
           choose P (both (leb i 1) (slot_at b.slots i).present) _ _
           (λ t. let w = both-parts (leb i 1) (slot_at b.slots i).present t in
           by-sending P b _ o down

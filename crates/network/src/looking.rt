@@ -4,7 +4,7 @@ ghost use Rattle.settings.specs.Settings.{ours};
 ghost use Rattle.board.specs.Requests.{slot_of};
 ghost use Rattle.network.specs.Opening.{looked_keyed, look_network};
 
-use board::{Board, Place, Slot};
+use board::{Board, Slot};
 use frames::{Layer, Read, Secured};
 use settings::LONGEST;
 
@@ -16,13 +16,12 @@ pub fn look_frame(board: Board, frame: &[u8]) -> bool
     if LONGEST < frame.len() {
         return false;
     }
-    match frames::read_frame(Layer::Network, frame, 0) {
-        Read::Refused(_) => false,
+    let Ok(read) = frames::read_frame(Layer::Network, frame, 0) else {
+        return false;
+    };
+    match read {
         Read::Plain(_) => false,
-        Read::Secured(s) => {
-            let slots = board.slots;
-            look_keyed(slots, frame, s)
-        }
+        Read::Secured(s) => look_keyed(board.slots, frame, s),
     }
 }
 
@@ -30,11 +29,7 @@ fn look_keyed(slots: [Slot; 2], f: &[u8], s: Secured) -> bool
     ensures { result ≡ looked_keyed ours slots f.now s (slot_of slots s.sequence) }
 {
     match board::slot_of(slots, s.sequence) {
-        Place::At(i) => {
-            let slot = slots[i];
-            let key = slot.key;
-            seals::look(key, f, s)
-        }
-        Place::Absent => false,
+        Some(i) => seals::look(slots[i].key, f, s),
+        None => false,
     }
 }

@@ -1,74 +1,75 @@
 // Opening, in document 01's order of judgement. How many rows a slot has, half of what the lists have, is
 // taken where these were judged, and handed down.
-ghost use Rattle.std.specs.Prelude.{◌≡◌, true, ◌≤◌, ◌<◌, length};
+ghost use Rattle.std.specs.Prelude.{◌≡◌, ◌≤◌, ◌<◌, length};
 ghost use Rattle.settings.specs.Settings.{ours, longest, top};
 ghost use Rattle.octets.specs.Keys.{the_key};
 ghost use Rattle.answers.specs.Numbers.{told_opened};
 ghost use Rattle.board.specs.Rows.{lists};
 ghost use Rattle.board.specs.Requests.{slot_of};
-ghost use Rattle.seals.specs.Sealing.{message_of, sound};
+ghost use Rattle.seals.specs.Sealing.{message_of};
 ghost use Rattle.network.specs.Opening.{Lent, lent, leaving, row_of, admitted, opened_under, opened_keyed, open_network};
 ghost use Rattle.network.specs.Code.{opened_heard};
 
-use answers::{Guard, Opened, Refusal};
-use board::{Board, Place, Slot};
-use frames::{Layer, Read, Secured};
-use seals::Unsealed;
+use answers::{Opened, Refusal};
+use board::{Board, Slot};
+use frames::{Layer, Read};
+use seals::Incoming;
 use settings::{LONGEST, TOP};
 
 // A frame for which there is a row: the tag is judged before the row is touched.
 fn admit(
     key: [u8; 16],
     r: usize,
-    f: &[u8],
-    s: Secured,
+    x: Incoming,
     addrs: &mut [u64],
     floors: &mut [u32],
     out: &mut [u8],
-) -> Opened
-    requires s_value { (sound ours f.now s ≡ true) × ((longest ≤ length out.old) × (s.counter < top)) }
+) -> Result<Opened, Refusal>
+    requires room { longest ≤ length out.old }
+    requires below_top { x.secured.counter < top }
     requires r_in_bounds { (r < length addrs.old) × (r < length floors.old) }
-    ensures { leaving (told_opened result) (lent addrs.new floors.new out.new) ≡ admitted f.now s (lent addrs.old floors.old out.old) (message_of ours (the_key key) f.now s) (Place.At r) }
+    ensures { leaving (told_opened result) (lent addrs.new floors.new out.new) ≡ admitted x.entry.frame.now x.entry.secured (lent addrs.old floors.old out.old) (message_of ours (the_key key) x.entry.frame.now x.entry.secured) (Some r) }
 {
-    match seals::unseal(key, Layer::Network, f, s, out) {
-        Unsealed::Plain(n) => {
-            addrs[r] = s.sender;
-            floors[r] = s.counter + 1;
-            Opened::Frame(n, s.sender, Guard::Under(1))
-        }
-        Unsealed::Forged => Opened::Refused(Refusal::Forged),
-    }
+    let length = seals::unseal(key, Layer::Network, x.frame, x.secured, out).ok_or(
+        Refusal::Forged,
+    )?;
+    addrs[r] = x.secured.sender;
+    floors[r] = x.secured.counter + 1;
+    Ok(Opened {
+        length,
+        sender: x.secured.sender,
+        protection: Some(1),
+    })
 }
 
 // A frame for which there is no row: 9 comes before 10.
-fn turn_away(key: [u8; 16], f: &[u8], s: Secured) -> Opened
-    requires { sound ours f.now s ≡ true }
-    ensures { (w : Lent) → leaving (told_opened result) w ≡ admitted f.now s w (message_of ours (the_key key) f.now s) Place.Absent }
+fn turn_away(key: [u8; 16], x: Incoming) -> Result<Opened, Refusal>
+    ensures { (w : Lent) → leaving (told_opened result) w ≡ admitted x.entry.frame.now x.entry.secured w (message_of ours (the_key key) x.entry.frame.now x.entry.secured) None }
 {
-    if seals::look(key, f, s) {
-        return Opened::Refused(Refusal::Full);
+    if seals::look(key, x.frame, x.secured) {
+        return Err(Refusal::Full);
     }
-    Opened::Refused(Refusal::Forged)
+    Err(Refusal::Forged)
 }
 
 // A sender that has row r.
 fn open_heard(
     key: [u8; 16],
     r: usize,
-    f: &[u8],
-    s: Secured,
+    x: Incoming,
     addrs: &mut [u64],
     floors: &mut [u32],
     out: &mut [u8],
-) -> Opened
-    requires s_value { (sound ours f.now s ≡ true) × ((longest ≤ length out.old) × (s.counter < top)) }
+) -> Result<Opened, Refusal>
+    requires room { longest ≤ length out.old }
+    requires below_top { x.secured.counter < top }
     requires r_in_bounds { (r < length addrs.old) × (r < length floors.old) }
-    ensures { leaving (told_opened result) (lent addrs.new floors.new out.new) ≡ opened_heard ours (the_key key) r f.now s (lent addrs.old floors.old out.old) }
+    ensures { leaving (told_opened result) (lent addrs.new floors.new out.new) ≡ opened_heard ours (the_key key) r x.entry.frame.now x.entry.secured (lent addrs.old floors.old out.old) }
 {
-    if s.counter < floors[r] {
-        return Opened::Refused(Refusal::Stale);
+    if x.secured.counter < floors[r] {
+        return Err(Refusal::Stale);
     }
-    admit(key, r, f, s, addrs, floors, out)
+    admit(key, r, x, addrs, floors, out)
 }
 
 // A sender that was not heard under slot i: its floor is 0, so no counter is stale.
@@ -76,19 +77,20 @@ fn open_new(
     rows: usize,
     key: [u8; 16],
     i: usize,
-    f: &[u8],
-    s: Secured,
+    x: Incoming,
     addrs: &mut [u64],
     floors: &mut [u32],
     out: &mut [u8],
-) -> Opened
-    requires s_value { (sound ours f.now s ≡ true) × ((longest ≤ length out.old) × (s.counter < top)) }
-    requires i_bound { (i < 2) × (length addrs.old ≡ length floors.old) }
-    ensures { leaving (told_opened result) (lent addrs.new floors.new out.new) ≡ admitted f.now s (lent addrs.old floors.old out.old) (message_of ours (the_key key) f.now s) (row_of rows (lists addrs.old floors.old) i 0) }
+) -> Result<Opened, Refusal>
+    requires room { longest ≤ length out.old }
+    requires below_top { x.secured.counter < top }
+    requires slot { i < 2 }
+    requires same_length { length addrs.old ≡ length floors.old }
+    ensures { leaving (told_opened result) (lent addrs.new floors.new out.new) ≡ admitted x.entry.frame.now x.entry.secured (lent addrs.old floors.old out.old) (message_of ours (the_key key) x.entry.frame.now x.entry.secured) (row_of rows (lists addrs.old floors.old) i 0) }
 {
     match board::find_row(addrs, i * rows, rows, 0) {
-        Place::At(r) => admit(key, r, f, s, addrs, floors, out),
-        Place::Absent => turn_away(key, f, s),
+        Some(r) => admit(key, r, x, addrs, floors, out),
+        None => turn_away(key, x),
     }
 }
 
@@ -96,45 +98,39 @@ fn open_under(
     rows: usize,
     key: [u8; 16],
     i: usize,
-    f: &[u8],
-    s: Secured,
+    x: Incoming,
     addrs: &mut [u64],
     floors: &mut [u32],
     out: &mut [u8],
-) -> Opened
-    requires s_value { (sound ours f.now s ≡ true) × (longest ≤ length out.old) }
-    requires i_bound { (i < 2) × (length addrs.old ≡ length floors.old) }
-    ensures { leaving (told_opened result) (lent addrs.new floors.new out.new) ≡ opened_under ours rows (the_key key) i f.now s (lent addrs.old floors.old out.old) }
+) -> Result<Opened, Refusal>
+    requires room { longest ≤ length out.old }
+    requires slot { i < 2 }
+    requires same_length { length addrs.old ≡ length floors.old }
+    ensures { leaving (told_opened result) (lent addrs.new floors.new out.new) ≡ opened_under ours rows (the_key key) i x.entry.frame.now x.entry.secured (lent addrs.old floors.old out.old) }
 {
-    if s.counter == TOP {
-        return Opened::Refused(Refusal::Top);
+    if x.secured.counter == TOP {
+        return Err(Refusal::Top);
     }
-    match board::find_row(addrs, i * rows, rows, s.sender) {
-        Place::At(r) => open_heard(key, r, f, s, addrs, floors, out),
-        Place::Absent => open_new(rows, key, i, f, s, addrs, floors, out),
+    match board::find_row(addrs, i * rows, rows, x.secured.sender) {
+        Some(r) => open_heard(key, r, x, addrs, floors, out),
+        None => open_new(rows, key, i, x, addrs, floors, out),
     }
 }
 
 fn open_keyed(
     rows: usize,
     slots: [Slot; 2],
-    f: &[u8],
-    s: Secured,
+    x: Incoming,
     addrs: &mut [u64],
     floors: &mut [u32],
     out: &mut [u8],
-) -> Opened
-    requires { (sound ours f.now s ≡ true) × ((longest ≤ length out.old) × (length addrs.old ≡ length floors.old)) }
-    ensures { leaving (told_opened result) (lent addrs.new floors.new out.new) ≡ opened_keyed ours rows slots f.now s (lent addrs.old floors.old out.old) (slot_of slots s.sequence) }
+) -> Result<Opened, Refusal>
+    requires room { longest ≤ length out.old }
+    requires same_length { length addrs.old ≡ length floors.old }
+    ensures { leaving (told_opened result) (lent addrs.new floors.new out.new) ≡ opened_keyed ours rows slots x.entry.frame.now x.entry.secured (lent addrs.old floors.old out.old) (slot_of slots x.entry.secured.sequence) }
 {
-    match board::slot_of(slots, s.sequence) {
-        Place::At(i) => {
-            let slot = slots[i];
-            let key = slot.key;
-            open_under(rows, key, i, f, s, addrs, floors, out)
-        }
-        Place::Absent => Opened::Refused(Refusal::NoKey),
-    }
+    let i = board::slot_of(slots, x.secured.sequence).ok_or(Refusal::NoKey)?;
+    open_under(rows, slots[i].key, i, x, addrs, floors, out)
 }
 
 // Opens a network frame: the plain frame stands at the start of out. A refusal leaves the lists and
@@ -145,28 +141,31 @@ pub fn open_frame(
     addrs: &mut [u64],
     floors: &mut [u32],
     out: &mut [u8],
-) -> Opened
+) -> Result<Opened, Refusal>
     ensures { leaving (told_opened result) (lent addrs.new floors.new out.new) ≡ open_network ours board frame.now (lent addrs.old floors.old out.old) }
 {
     if out.len() < LONGEST {
-        return Opened::Refused(Refusal::Room);
+        return Err(Refusal::Room);
     }
     if !board::lists_fit(addrs, floors) {
-        return Opened::Refused(Refusal::Room);
+        return Err(Refusal::Room);
     }
     let rows = addrs.len() / 2;
     if LONGEST < frame.len() {
-        return Opened::Refused(Refusal::Long);
+        return Err(Refusal::Long);
     }
-    match frames::read_frame(Layer::Network, frame, 0) {
-        Read::Refused(r) => Opened::Refused(r),
+    match frames::read_frame(Layer::Network, frame, 0)? {
         Read::Plain(_) => {
             octets::paste_at(out, 0, frame);
-            Opened::Frame(frame.len(), 0, Guard::Clear)
+            Ok(Opened {
+                length: frame.len(),
+                sender: 0,
+                protection: None,
+            })
         }
-        Read::Secured(s) => {
-            let slots = board.slots;
-            open_keyed(rows, slots, frame, s, addrs, floors, out)
+        Read::Secured(secured) => {
+            let x = Incoming { frame, secured };
+            open_keyed(rows, board.slots, x, addrs, floors, out)
         }
     }
 }

@@ -3,89 +3,92 @@
 ghost use Rattle.std.specs.Prelude.{◌≡◌, ◌≤◌, length};
 ghost use Rattle.settings.specs.Settings.{ours, longest, longest_plain};
 ghost use Rattle.answers.specs.Numbers.{told_sealed};
-ghost use Rattle.board.specs.Sending.{with_outgoing, counter_after, framed, sending_of};
+ghost use Rattle.board.specs.Sending.{framed, sending_of};
+ghost use Rattle.board.specs.Code.{sent};
 ghost use Rattle.network.specs.Sealing.{sealed_under, sealed_by, seal_network};
 
-use answers::{Outcome, Refusal, Sealed};
-use board::{Active, Board, Sending, Sent, Slot};
-use frames::{Layer, PlainRead};
-use seals::Enclosed;
+use answers::Refusal;
+use board::{After, Board, Sending, Slot};
+use frames::{Auxiliary, Layer};
+use seals::Outgoing;
 use settings::{LONGEST, LONGEST_PLAIN};
 
-fn seal_under(sending: Sending, s: Slot, f: &[u8], h: usize, out: &mut [u8]) -> Sealed
-    requires { ((2 ≤ h) × (h ≤ length f.now)) × ((length f.now ≤ longest_plain ours) × (longest ≤ length out.old)) }
-    ensures { (b : Board) → sending_of b ≡ sending → framed (told_sealed result) (with_outgoing b (counter_after (told_sealed result) b.outgoing)) out.new ≡ sealed_under ours b f.now out.old h s }
+fn seal_under(sending: Sending, s: Slot, x: Outgoing, out: &mut [u8]) -> Result<usize, Refusal>
+    requires { (length x.frame.now ≤ longest_plain ours) × (longest ≤ length out.old) }
+    ensures { (b : Board) → sending_of b ≡ sending → sent b result out.new ≡ sealed_under ours b x.entry.frame.now out.old x.entry.header s }
 {
-    match board::may_send(sending) {
-        Outcome::Refused(r) => Sealed::Refused(r),
-        Outcome::Done => {
-            let key = s.key;
-            let counter = sending.counter;
-            let own = sending.own;
-            match seals::seal(key, Layer::Network, 1, counter, own, s.seq, f, h, out) {
-                Enclosed::Octets(n) => Sealed::Frame(n),
-                Enclosed::Nothing => Sealed::Refused(Refusal::Room),
-            }
-        }
-    }
+    board::may_send(sending)?;
+    let aux = Auxiliary {
+        identifier: 1,
+        counter: sending.counter,
+        sender: sending.own,
+        sequence: s.seq,
+    };
+    seals::seal(s.key, Layer::Network, aux, x.frame, x.header, out).ok_or(Refusal::Room)
 }
 
 fn seal_active(
     slots: [Slot; 2],
     i: usize,
     sending: Sending,
-    f: &[u8],
-    h: usize,
+    x: Outgoing,
     out: &mut [u8],
-) -> Sealed
-    requires { ((2 ≤ h) × (h ≤ length f.now)) × ((length f.now ≤ longest_plain ours) × (longest ≤ length out.old)) }
-    ensures { (b : Board) → b.slots ≡ slots → sending_of b ≡ sending → framed (told_sealed result) (with_outgoing b (counter_after (told_sealed result) b.outgoing)) out.new ≡ sealed_by ours b f.now out.old h (Active.Slot i) }
+) -> Result<usize, Refusal>
+    requires { (length x.frame.now ≤ longest_plain ours) × (longest ≤ length out.old) }
+    ensures { (b : Board) → b.slots ≡ slots → sending_of b ≡ sending → sent b result out.new ≡ sealed_by ours b x.entry.frame.now out.old x.entry.header (Some i) }
 {
     if 1 < i {
-        return Sealed::Refused(Refusal::NoKey);
+        return Err(Refusal::NoKey);
     }
     let s = slots[i];
     if !s.present {
-        return Sealed::Refused(Refusal::NoKey);
+        return Err(Refusal::NoKey);
     }
-    seal_under(sending, s, f, h, out)
+    seal_under(sending, s, x, out)
 }
 
 fn seal_by(
     slots: [Slot; 2],
-    active: Active,
+    active: Option<usize>,
     sending: Sending,
-    f: &[u8],
-    h: usize,
+    x: Outgoing,
     out: &mut [u8],
-) -> Sealed
-    requires { ((2 ≤ h) × (h ≤ length f.now)) × ((length f.now ≤ longest_plain ours) × (longest ≤ length out.old)) }
-    ensures { (b : Board) → b.slots ≡ slots → sending_of b ≡ sending → framed (told_sealed result) (with_outgoing b (counter_after (told_sealed result) b.outgoing)) out.new ≡ sealed_by ours b f.now out.old h active }
+) -> Result<usize, Refusal>
+    requires { (length x.frame.now ≤ longest_plain ours) × (longest ≤ length out.old) }
+    ensures { (b : Board) → b.slots ≡ slots → sending_of b ≡ sending → sent b result out.new ≡ sealed_by ours b x.entry.frame.now out.old x.entry.header active }
 {
     match active {
-        Active::Nobody => Sealed::Refused(Refusal::NoKey),
-        Active::Slot(i) => seal_active(slots, i, sending, f, h, out),
+        None => Err(Refusal::NoKey),
+        Some(i) => seal_active(slots, i, sending, x, out),
     }
 }
 
-fn seal_read(slots: [Slot; 2], active: Active, sending: Sending, f: &[u8], out: &mut [u8]) -> Sealed
-    ensures { (b : Board) → b.slots ≡ slots → b.active ≡ active → sending_of b ≡ sending → framed (told_sealed result) (with_outgoing b (counter_after (told_sealed result) b.outgoing)) out.new ≡ seal_network ours b f.now out.old }
+fn seal_read(
+    slots: [Slot; 2],
+    active: Option<usize>,
+    sending: Sending,
+    f: &[u8],
+    out: &mut [u8],
+) -> Result<usize, Refusal>
+    ensures { (b : Board) → b.slots ≡ slots → b.active ≡ active → sending_of b ≡ sending → sent b result out.new ≡ seal_network ours b f.now out.old }
 {
     if out.len() < LONGEST {
-        return Sealed::Refused(Refusal::Room);
+        return Err(Refusal::Room);
     }
     if LONGEST_PLAIN < f.len() {
-        return Sealed::Refused(Refusal::Long);
+        return Err(Refusal::Long);
     }
-    match frames::read_plain(Layer::Network, f) {
-        PlainRead::Refused(r) => Sealed::Refused(r),
-        PlainRead::Header(h) => seal_by(slots, active, sending, f, h, out),
-    }
+    let h = frames::read_plain(Layer::Network, f)?;
+    let x = Outgoing {
+        frame: f,
+        header: h,
+    };
+    seal_by(slots, active, sending, x, out)
 }
 
 // Seals a plain network frame under the active key: the secured frame stands at the start of out,
 // and the outgoing counter is spent. A refusal leaves the board and out as they stood.
-pub fn seal_frame(board: Board, frame: &[u8], out: &mut [u8]) -> Sent
+pub fn seal_frame(board: Board, frame: &[u8], out: &mut [u8]) -> After<usize>
     ensures { framed (told_sealed result.answer) result.board out.new ≡ seal_network ours board frame.now out.old }
 {
     let slots = board.slots;
@@ -94,7 +97,7 @@ pub fn seal_frame(board: Board, frame: &[u8], out: &mut [u8]) -> Sent
     let answer = seal_read(slots, active, sending, frame, out);
     let mut next = board;
     next.outgoing = board::counter_after(answer, board.outgoing);
-    Sent {
+    After {
         answer,
         board: next,
     }

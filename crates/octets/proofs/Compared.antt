@@ -1,15 +1,16 @@
--- `eq_list` tells equal lists from all others; and a loop that gathers what is apart, without leaving early, tells the same.
+-- `eq_list` tells equal lists from all others; and a fold that gathers what is apart, without leaving early, tells the same.
 -- Assumes nothing.
 use mathlib.Core.Path.{◌≡◌, refl, sym, ap, ap₂, ◌∙◌}
 use mathlib.Core.Bool.{Bool, true, false}
 use mathlib.Core.List.{List, [], ◌∷◌}
-use Prim.Native.Nat.{ℕ, ◌+◌, ◌<◌, ◌≤◌}
+use Prim.Native.Nat.{ℕ}
 use lib.Bits.{bit_xor, bit_or, xor_self}
 use lib.Dec.{eqb}
-use lib.ListN.{length, get_or, drop, drop_of_length-le}
+use lib.ListN.{length}
+use native.Mathlib.Omega.{arith}
+use Rattle.std.proofs.Common.{fold, zip}
 use borrow.Author.Tests.{eqb-true, eq-eqb}
 use Rattle.octets.proofs.Choices.{both-assoc, both_true}
-use Rattle.octets.proofs.Tabs.{drop-step}
 use Rattle.octets.proofs.Xor.{xor-zero, or-zero}
 use Rattle.octets.specs.Choice.{both}
 use Rattle.octets.specs.Lists.{eq_list}
@@ -50,14 +51,13 @@ apart_more p x y = go (eqb (bit_or p (bit_xor x y)) 0) refl (eqb p 0) refl (eqb 
     go false e true f false g = refl
     go false e false f v g = refl
 
-pub same_more : (a b : List ℕ) (i p : ℕ) → i < length a → i < length b
-    → both (eqb p 0) (eq_list (drop i a) (drop i b))
-    ≡ both (eqb (bit_or p (bit_xor (get_or a i 0) (get_or b i 0))) 0) (eq_list (drop (i + 1) a) (drop (i + 1) b))
-same_more a b i p h k =
-    ap₂ (λ (u v : List ℕ). both (eqb p 0) (eq_list u v)) (drop-step a i h) (drop-step b i k)
-    ∙ sym (both-assoc (eqb p 0) (eqb (get_or a i 0) (get_or b i 0)) (eq_list (drop (i + 1) a) (drop (i + 1) b)))
-    ∙ ap (λ (t : Bool). both t (eq_list (drop (i + 1) a) (drop (i + 1) b))) (sym (apart_more p (get_or a i 0) (get_or b i 0)))
-
-pub same-done : (a b : List ℕ) (i p : ℕ) → length a ≤ i → length b ≤ i → both (eqb p 0) (eq_list (drop i a) (drop i b)) ≡ eqb p 0
-same-done a b i p h k =
-    ap₂ (λ (u v : List ℕ). both (eqb p 0) (eq_list u v)) (drop_of_length-le a h) (drop_of_length-le b k) ∙ both_true (eqb p 0)
+-- what a fold over the pairs gathers: 0 just where nothing was apart before and nothing is in the lists
+pub gathered : (p : ℕ) (a b : List ℕ) → length a ≡ length b
+    → eqb (fold (λ (q : ℕ) (o : ℕ × ℕ). bit_or q (bit_xor o.0 o.1)) p (zip a b)) 0 ≡ both (eqb p 0) (eq_list a b)
+gathered p [] [] e = sym (both_true (eqb p 0))
+gathered p [] (y ∷ b) e = absurd (omega (arith, e))
+gathered p (x ∷ a) [] e = absurd (omega (arith, e))
+gathered p (x ∷ a) (y ∷ b) e =
+    gathered (bit_or p (bit_xor x y)) a b (omega (arith, e))
+    ∙ ap (λ (t : Bool). both t (eq_list a b)) (apart_more p x y)
+    ∙ both-assoc (eqb p 0) (eqb x y) (eq_list a b)

@@ -8,3 +8,4 @@ pub mod Pasted
 pub mod AllOctets
 pub mod Numbers
 pub mod Parts
+pub mod FromFn

@@ -1,19 +1,11 @@
 -- The portions of an inner frame: each lies inside it, the four joined are the inner frame, and all are empty where the router
 -- refuses.
 -- Assumes nothing.
-use mathlib.Core.Path.{◌≡◌, refl, sym, ap, ap₂, subst, ◌∙◌}
-use mathlib.Core.Bool.{false}
-use mathlib.Core.Logic.{◌⊎◌, inl, inr}
-use mathlib.Core.List.{List, [], ◌++◌}
-use denote.Ref.{Bor}
-use Prim.Native.Nat.{ℕ, ◌+◌, ◌≤◌}
-use native.Mathlib.Omega.{arith}
-use lib.Dec.{eqb}
-use lib.ListN.{length, take, drop, length-drop}
-use lib.Seq.{length-take-le, take-add, drop-drop}
-use borrow.Author.Tests.{eq-eqb, ne_eqb}
+use Rattle.std.specs.Borrow.{Bor}
+use Rattle.std.proofs.Common.{◌≡◌, ℕ, ◌+◌, ◌-◌, ◌≤◌, Bool, true, false, eqb, ◌⊎◌, inl, inr, List, [], ◌++◌, length, take, drop, refl, sym, ap, ap₂, subst, ◌∙◌, arith, length-drop, length-take-le, take-add, drop-drop, eq-eqb, ne_eqb, eqb-true}
+use Rattle.octets.proofs.Parts.{same-part}
 use Rattle.settings.specs.Settings.{Settings, aps_aux}
-use Rattle.octets.specs.Parts.{Part}
+use Rattle.octets.specs.Parts.{Part, seen}
 use Rattle.answers.specs.Numbers.{ProtectionTold}
 use Rattle.commands.specs.declared.Span.{Span}
 use Rattle.commands.specs.Table.{least_inner}
@@ -155,28 +147,46 @@ module _ (z : Settings) (s : Bor (List ℕ)) (p : ProtectionTold) (part : Portio
       simp (octets-promised Header, octets-promised Auxiliary, octets-promised Payload, octets-promised Tag, octets-promised Whole)
       (four-joined z s.now p)
 
--- ---- a portion cut out of the inner frame m
+-- ---- the inner frame m that the reader handed out of s, and a portion cut out of it
 
-module _ (z : Settings) (f : List ℕ) (p : ProtectionTold) where
-  module _ (m : List ℕ) (e : m ≡ octets_at f (q z f p)) where
-    pub same_count : length m ≡ (q z f p).count
-    same_count = ap length e ∙ inner-count z f p
+module _ (z : Settings) (s : Bor (List ℕ)) (p : ProtectionTold) (m : Bor (List ℕ)) (e : seen m ≡ cut_at s (q z s.now p))
+    (empty : Bool) (test : empty ≡ eqb (length m.now) 0) where
+  same_count : length m.now ≡ (q z s.now p).count
+  same_count = ap (λ (x : Part). length x.octets) e ∙ inner-count z s.now p
 
-    module _ (some : length m ≡ 0 → ⊥) where
-      pub long-enough : least_inner z ≤ length m
-      long-enough = omega (arith, same_count, some-least z f p (λ d. some (same_count ∙ d)))
+  pub none-left : empty ≡ true → (w : Portion) → seen m ≡ cut_at s (portion_span z w s.now p)
+  none-left h w =
+      let n : length m.now ≡ 0 = eqb-true (length m.now) 0 (sym test ∙ h) in
+      e ∙ ap (cut_at s) (sym (none-on z s.now p w (sym same_count ∙ n)))
 
-      pub its-span : (w : Portion)
-          → portion_span z w f p ≡ span ((q z f p).from + start_of z w (length m)) (size_of z w (length m))
-      its-span w =
-          some-on z f p (λ d. some (same_count ∙ d)) w
-          ∙ ap (λ (n : ℕ). span ((q z f p).from + start_of z w n) (size_of z w n)) (sym same_count)
+  module _ (h : empty ≡ false) where
+    some : length m.now ≡ 0 → ⊥
+    some n = absurd (let t : true ≡ false = sym (eq-eqb (length m.now) 0 n) ∙ sym test ∙ h in cc)
 
-      pub its-octets : (w : Portion) (n i : ℕ) → i ≡ start_of z w (length m) → n ≡ size_of z w (length m)
-          → take n (drop i m) ≡ handed_on z w f p
-      its-octets w n i s t =
-          let h = within z (length m) long-enough w in
-          ap (λ (l : List ℕ). take n (drop i l)) e
-          ∙ part-within f (q z f p).from (q z f p).count i n (omega (arith, same_count))
-          ∙ ap₂ (λ (x y : ℕ). take x (drop ((q z f p).from + y) f)) t s
-          ∙ ap (octets_at f) (sym (its-span w))
+    pub long-enough : least_inner z ≤ length m.now
+    long-enough = omega (arith, same_count, some-least z s.now p (λ d. some (same_count ∙ d)))
+
+    its-span : (w : Portion)
+        → portion_span z w s.now p ≡ span ((q z s.now p).from + start_of z w (length m.now)) (size_of z w (length m.now))
+    its-span w =
+        some-on z s.now p (λ d. some (same_count ∙ d)) w
+        ∙ ap (λ (n : ℕ). span ((q z s.now p).from + start_of z w n) (size_of z w n)) (sym same_count)
+
+    -- the octets of m from place i up to place j
+    pub its-part : (w : Portion) (r : Bor (List ℕ)) (i j : ℕ) → i ≡ start_of z w (length m.now)
+        → j ≡ start_of z w (length m.now) + size_of z w (length m.now)
+        → r.ref_ptr.0 ≡ m.ref_ptr.0 → r.ref_ptr.1 ≡ i + m.ref_ptr.1 → r.now ≡ take (j - i) (drop i m.now)
+        → seen r ≡ cut_at s (portion_span z w s.now p)
+    its-part w r i j a b block offset octets =
+        let f = s.now in
+        let k : span ((q z f p).from + start_of z w (length m.now)) (size_of z w (length m.now)) ≡ portion_span z w f p = sym (its-span w) in
+        let l : length m.now ≡ (q z f p).count = same_count in
+        let n : j - i ≡ size_of z w (length m.now) = omega (arith, a, b) in
+        let bound = within z (length m.now) long-enough w in
+        same-part (block ∙ ap (λ (x : Part). x.block) e)
+        (omega (arith, offset, a, ap (λ (x : Part). x.offset) e, ap (λ (x : Span). x.from) k))
+        (octets
+        ∙ ap (λ (l : List ℕ). take (j - i) (drop i l)) (ap (λ (x : Part). x.octets) e)
+        ∙ part-within f (q z f p).from (q z f p).count i (j - i) (omega (arith, l, a, n, bound))
+        ∙ ap₂ (λ (x y : ℕ). take x (drop ((q z f p).from + y) f)) n a
+        ∙ ap (octets_at f) k)

@@ -2,7 +2,8 @@
 -- as the reader does; another command than Tunnel is 11. Document 01, "How to write each place": "the inner frame, a part that
 -- starts in the tunnel's middle, is handed on; so are header, auxiliary header, payload and tag."
 -- Assumes nothing.
-use Rattle.std.specs.Prelude.{List, ◌++◌, ℕ, ◌+◌, ◌-◌, length, ◌==◌}
+use Rattle.answers.specs.declared.Refusal.{Refusal}
+use Rattle.std.specs.Prelude.{List, ◌++◌, ℕ, ◌+◌, ◌-◌, length, ◌==◌, Result, Ok, Err}
 use Rattle.settings.specs.Settings.{Settings, aps_aux}
 use Rattle.std.specs.Prelude.{if◌then◌else◌}
 use Rattle.octets.specs.Lists.{at}
@@ -11,8 +12,6 @@ use Rattle.commands.specs.declared.Span.{Span}
 use Rattle.commands.specs.Numbers.{CommandTold, untyped, typed}
 use Rattle.commands.specs.Reading.{ReadTold, read, unread, judge, read_command}
 use Rattle.commands.specs.Parts.{octets_at, span, nowhere, inner_span}
-use Rattle.router.specs.declared.Routed.{Routed}
-use Rattle.router.specs.declared.Routed.TheVariants.{Onward, Refused}
 use Rattle.router.specs.declared.Portion.{Portion}
 use Rattle.router.specs.declared.Portion.TheVariants.{Whole, Header, Auxiliary, Payload, Tag}
 
@@ -23,9 +22,9 @@ pub data RouteTold : Type 0 where
   onward : ℕ → RouteTold
   halted : ℕ → RouteTold
 
-abbrev pub told_routed : Routed → RouteTold
-told_routed (Onward a) = onward a
-told_routed (Refused r) = halted (number_of r)
+abbrev pub told_routed : Result ℕ Refusal → RouteTold
+told_routed (Ok a) = onward a
+told_routed (Err r) = halted (number_of r)
 
 -- 0E is Tunnel, whose one number is the destination
 unfoldable pub tunnel_to : CommandTold → RouteTold

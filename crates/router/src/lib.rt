@@ -3,15 +3,7 @@
 
 mod routing;
 
-use answers::Refusal;
 pub use routing::{portion_of, route};
-
-// What the router answers: the destination of the inner frame, or a refusal.
-#[derive(Clone, Copy)]
-pub enum Routed {
-    Onward(u64),
-    Refused(Refusal),
-}
 
 // The inner frame, or one of the four that it is joined of.
 #[derive(Clone, Copy)]

@@ -9,78 +9,59 @@ ghost use Rattle.commands.specs.Parts.{cut_at};
 ghost use Rattle.commands.specs.Table.{least_inner};
 ghost use Rattle.router.specs.Routing.{told_routed, tunnel_to, route, start_of, size_of, portion_span};
 
-use crate::{Portion, Routed};
-use answers::{Guard, Refusal};
-use commands::{Command, Reading};
+use crate::Portion;
+use answers::Refusal;
+use commands::Command;
+use std::ops::Range;
 
 // The octets of the inner header: an inner frame is a command.
 const HEADER: usize = 2;
 
 // Another command than Tunnel goes nowhere.
-fn tunnel_to(c: Command) -> Routed
+#[tactic(auto, unfolding(crate::specs::Routing::tunnel_to))]
+fn tunnel_to(c: Command) -> Result<u64, Refusal>
     ensures { told_routed result ≡ tunnel_to (told_command c) }
 {
     match c {
-        Command::TransportKey(_) => Routed::Refused(Refusal::Command),
-        Command::UpdateDevice(_, _, _) => Routed::Refused(Refusal::Command),
-        Command::RemoveDevice(_) => Routed::Refused(Refusal::Command),
-        Command::RequestKey(_) => Routed::Refused(Refusal::Command),
-        Command::SwitchKey(_) => Routed::Refused(Refusal::Command),
-        Command::Tunnel(a) => Routed::Onward(a),
-        Command::VerifyKey(_, _) => Routed::Refused(Refusal::Command),
-        Command::ConfirmKey(_, _, _) => Routed::Refused(Refusal::Command),
-        Command::RelayDownstream => Routed::Refused(Refusal::Command),
-        Command::RelayUpstream => Routed::Refused(Refusal::Command),
+        Command::Tunnel(a) => Ok(a),
+        _ => Err(Refusal::Command),
     }
 }
 
 // Where the frame inside a plain APS frame that came under that protection goes: the destination of
 // a Tunnel, else why it goes nowhere. It is lent nothing that it could change.
-pub fn route(frame: &[u8], protection: Guard) -> Routed
+#[tactic(auto, unfolding(crate::specs::Routing::route, crate::specs::Routing::route_of))]
+pub fn route(frame: &[u8], protection: Option<u8>) -> Result<u64, Refusal>
     ensures { told_routed result ≡ route ours frame.now (protection_of protection) }
 {
-    match commands::read_command(frame, protection) {
-        Reading::Command(c) => tunnel_to(c),
-        Reading::Refused(r) => Routed::Refused(r),
-    }
+    let command = commands::read_command(frame, protection)?;
+    tunnel_to(command)
 }
 
-fn start_of(portion: Portion, n: usize) -> usize
+// Where a portion stands in an inner frame of n octets.
+fn place_of(portion: Portion, n: usize) -> Range<usize>
     requires { least_inner ours ≤ n }
-    ensures { result ≡ start_of ours portion n }
+    ensures start { result.start ≡ start_of ours portion n }
+    ensures end { result.end ≡ start_of ours portion n + size_of ours portion n }
+    ensures within { result.end ≤ n }
 {
     match portion {
-        Portion::Whole => 0,
-        Portion::Header => 0,
-        Portion::Auxiliary => HEADER,
-        Portion::Payload => HEADER + settings::APS_AUX,
-        Portion::Tag => n - settings::TAG,
-    }
-}
-
-fn end_of(portion: Portion, n: usize) -> usize
-    requires { least_inner ours ≤ n }
-    ensures { result ≡ start_of ours portion n + size_of ours portion n }
-{
-    match portion {
-        Portion::Whole => n,
-        Portion::Header => HEADER,
-        Portion::Auxiliary => HEADER + settings::APS_AUX,
-        Portion::Payload => n - settings::TAG,
-        Portion::Tag => n,
+        Portion::Whole => 0..n,
+        Portion::Header => 0..HEADER,
+        Portion::Auxiliary => HEADER..HEADER + settings::APS_AUX,
+        Portion::Payload => HEADER + settings::APS_AUX..n - settings::TAG,
+        Portion::Tag => n - settings::TAG..n,
     }
 }
 
 // The inner frame of that frame, or a portion of it; empty if the router refuses the frame. Joined,
 // header, auxiliary header, payload and tag are the inner frame (`four-joined`, `calls-joined`).
-pub fn portion_of(frame: &[u8], protection: Guard, portion: Portion) -> &[u8]
+pub fn portion_of(frame: &[u8], protection: Option<u8>, portion: Portion) -> &[u8]
     ensures { seen result ≡ cut_at frame.entry (portion_span ours portion frame.now (protection_of protection)) }
 {
     let inner = commands::inner_of(frame, protection);
-    if inner.len() == 0 {
+    if inner.is_empty() {
         return inner;
     }
-    let start = start_of(portion, inner.len());
-    let end = end_of(portion, inner.len());
-    &inner[start..end]
+    &inner[place_of(portion, inner.len())]
 }

@@ -1,5 +1,7 @@
 -- Whether unsealing makes a frame is what `looking` says, whatever the layer and whatever the output, if it has room.
 -- Assumes nothing.
+use Rattle.std.proofs.Common.{Option, Some, None}
+use Rattle.std.specs.Option.{is_some}
 use mathlib.Core.Path.{◌≡◌, refl, ap, ◌∙◌}
 use mathlib.Core.Bool.{Bool, true, false}
 use mathlib.Core.List.{List}
@@ -12,7 +14,6 @@ use Rattle.octets.specs.Keys.{Key}
 use Rattle.octets.proofs.Choices.{both_true}
 use Rattle.std.specs.Prelude.{if◌then◌else◌}
 use Rattle.octets.specs.Choice.{both}
-use Rattle.seals.specs.declared.Unsealed.{Unsealed}
 use Rattle.seals.specs.Sealing.{message_of, is_valid, genuine, told_unsealed, sound, unsealed_onto, unsealing, looking}
 use Rattle.cipher.specs.Answers.{Count, made, refused, Product, product}
 use Rattle.cipher.specs.Ccm.{Verdict, valid, invalid}
@@ -23,6 +24,10 @@ use Rattle.frames.specs.declared.Secured.{Secured}
 abbrev pub is_made : Count → Bool
 is_made (made n) = true
 is_made (refused n) = false
+
+pub made-some : (u : Option ℕ) → is_some u ≡ is_made (told_unsealed u)
+made-some (Some n) = refl
+made-some None = refl
 
 module _ (z : Settings) (k : Key) (l : Layer) (f : List ℕ) (s : Secured) (o : List ℕ) (room : longest ≤ length o) where
   pub looking-is : is_made (unsealing z k l f s o).answer ≡ looking z k f s
@@ -40,5 +45,5 @@ module _ (z : Settings) (k : Key) (l : Layer) (f : List ℕ) (s : Secured) (o : 
       go false r = refl
 
   -- of the answer that the call gave
-  pub looked : (r : Unsealed) (p : List ℕ) → product (told_unsealed r) p ≡ unsealing z k l f s o → is_made (told_unsealed r) ≡ looking z k f s
+  pub looked : (r : Option ℕ) (p : List ℕ) → product (told_unsealed r) p ≡ unsealing z k l f s o → is_made (told_unsealed r) ≡ looking z k f s
   looked r p e = ap (λ (x : Product). is_made x.answer) e ∙ looking-is

@@ -1,5 +1,6 @@
 -- The calls of `unseal_sound` do what `unsealing` says: the cipher is asked what it asks, and the header goes before the message.
 -- Assumes nothing.
+use Rattle.std.proofs.Common.{Result, Ok, Err}
 use mathlib.Core.Path.{◌≡◌, refl, sym, ap, ap₂, ◌∙◌}
 use mathlib.Core.Bool.{true}
 use mathlib.Core.List.{List, ◌++◌}
@@ -17,8 +18,6 @@ use Rattle.seals.specs.Sealing.{Fair, authenticated_of, body_of, nonce_for, mess
 use Rattle.cipher.specs.Aes.{aes128}
 use Rattle.cipher.specs.Ccm.{Verdict, valid, invalid}
 use Rattle.cipher.specs.declared.Fault.{Fault}
-use Rattle.cipher.specs.declared.Answer.{Answer}
-use Rattle.cipher.specs.declared.Answer.TheVariants.{Made, Refused}
 use Rattle.cipher.specs.Answers.{opening, opened_onto, made, refused, counted, number, Product, product}
 use Rattle.cipher.proofs.Lengths.{opening-judged, valid-length}
 use Rattle.frames.specs.declared.Layer.{Layer}
@@ -150,24 +149,24 @@ module _ (z : Settings) (fair : Fair z) (k : Key) (l : Layer) (f : List ℕ) (s 
           (sym (take-append-drop s.header p) ∙ ap₂ (λ (u v : List ℕ). u ++ v) et b ∙ take-append-drop s.header o)
 
 -- what the cipher answered, r, and what it left in the output, p, are what the definition asks of it
-pub record Unseals (z : Settings) (k : Key) (f : List ℕ) (s : Secured) (o : List ℕ) (r : Answer) (p : List ℕ) : Type 0 where
+pub record Unseals (z : Settings) (k : Key) (f : List ℕ) (s : Secured) (o : List ℕ) (r : Result ℕ Fault) (p : List ℕ) : Type 0 where
   pub fits : Sound z f s
   pub room : longest ≤ length o
   pub outcome : product (counted r) (drop s.header p) ≡ opened_onto (message_of z k f s) (drop s.header o)
 
 -- what opening then answers
-module _ {z : Settings} {k : Key} {f : List ℕ} {s : Secured} {o : List ℕ} {r : Answer} {p : List ℕ} (fair : Fair z)
+module _ {z : Settings} {k : Key} {f : List ℕ} {s : Secured} {o : List ℕ} {r : Result ℕ Fault} {p : List ℕ} (fair : Fair z)
     (u : Unseals z k f s o r p) (l : Layer) where
-  by_answer : (a : Answer) → r ≡ a → product (counted a) (drop s.header p) ≡ opened_onto (message_of z k f s) (drop s.header o)
-  by_answer a e = ap (λ (x : Answer). product (counted x) (drop s.header p)) (sym e) ∙ u.outcome
+  by_answer : (a : Result ℕ Fault) → r ≡ a → product (counted a) (drop s.header p) ≡ opened_onto (message_of z k f s) (drop s.header o)
+  by_answer a e = ap (λ (x : Result ℕ Fault). product (counted x) (drop s.header p)) (sym e) ∙ u.outcome
 
-  pub after-length : (n : ℕ) → r ≡ Made n → n ≡ length f - (s.header + s.aux) - z.tag
-  after-length n e = made-length z fair k l f s o u.fits u.room n _ _ (by_answer (Made n) e)
+  pub after-length : (n : ℕ) → r ≡ Ok n → n ≡ length f - (s.header + s.aux) - z.tag
+  after-length n e = made-length z fair k l f s o u.fits u.room n _ _ (by_answer (Ok n) e)
 
-  pub after-made : (n : ℕ) (q : List ℕ) → r ≡ Made n → length p ≡ length o → q ≡ laid p f s.header (plain_header l f s.header)
+  pub after-made : (n : ℕ) (q : List ℕ) → r ≡ Ok n → length p ≡ length o → q ≡ laid p f s.header (plain_header l f s.header)
       → product (made (s.header + n)) q ≡ unsealing z k l f s o
-  after-made n q e lp eq = unsealed-made z fair k l f s o u.fits u.room n p q (by_answer (Made n) e) lp eq
+  after-made n q e lp eq = unsealed-made z fair k l f s o u.fits u.room n p q (by_answer (Ok n) e) lp eq
 
-  pub after-not : (v : Fault) → r ≡ Refused v → take s.header p ≡ take s.header o
+  pub after-not : (v : Fault) → r ≡ Err v → take s.header p ≡ take s.header o
       → product (refused 9) p ≡ unsealing z k l f s o
-  after-not v e et = unsealed-not z fair k l f s o u.fits u.room (number v) p (by_answer (Refused v) e) et
+  after-not v e et = unsealed-not z fair k l f s o u.fits u.room (number v) p (by_answer (Err v) e) et

@@ -1,5 +1,6 @@
 -- The calls of `seal_sound` do what `sealing` says: both headers are laid, and the cipher is asked what it asks and does not refuse.
 -- Assumes nothing.
+use Rattle.std.proofs.Common.{Result, Ok, Err}
 use mathlib.Core.Path.{◌≡◌, sym, ap, ap₂, ◌∙◌}
 use mathlib.Core.Bool.{true}
 use mathlib.Core.List.{List, ◌++◌}
@@ -18,8 +19,6 @@ use Rattle.seals.specs.Sealing.{Fair, sent_octets, sealed_with, sealed_frame, wr
 use Rattle.cipher.specs.Aes.{aes128}
 use Rattle.cipher.specs.Ccm.{ccm_seal}
 use Rattle.cipher.specs.declared.Fault.{Fault}
-use Rattle.cipher.specs.declared.Answer.{Answer}
-use Rattle.cipher.specs.declared.Answer.TheVariants.{Made, Refused}
 use Rattle.cipher.specs.Answers.{sealing, made, counted, Product, product}
 use Rattle.cipher.proofs.Lengths.{sealing-made}
 use Rattle.cipher.proofs.RoundTrip.{seal-length}
@@ -89,7 +88,7 @@ module _ (z : Settings) (fair : Fair z) (key : Key) (nonce : List ℕ) (l : Laye
       ∙ ap (λ (n : ℕ). product (made (n + z.tag)) (onto (ciphered z key nonce l x f h) (drop (h + w) q))) d
 
   -- of the outputs p, q and v, the scratch and a, and the answer r, as the calls gave them
-  secured-by : (scratch : List ℕ) (r : Answer) {p q a v : List ℕ}
+  secured-by : (scratch : List ℕ) (r : Result ℕ Fault) {p q a v : List ℕ}
       → p ≡ laid o f h (secured_header l f h)
       → q ≡ pasted p h x
       → length scratch ≡ longest
@@ -137,7 +136,7 @@ module _ (z : Settings) (key : Key) (l : Layer) (k n a q : ℕ) (f : List ℕ) (
 
   -- a frame that may be sealed, w octets of auxiliary header, the length of ciphertext and tag as the answer r, and the
   -- secured frame at the start of the output, which was o and is v
-  pub record Secures (o : List ℕ) (w : ℕ) (r : Answer) (v : List ℕ) : Type 0 where
+  pub record Secures (o : List ℕ) (w : ℕ) (r : Result ℕ Fault) (v : List ℕ) : Type 0 where
     pub low : k ≤ 3
     pub fits : Sealable z k f h
     pub room : longest ≤ length o
@@ -152,7 +151,7 @@ module _ (z : Settings) (key : Key) (l : Layer) (k n a q : ℕ) (f : List ℕ) (
         simp (le-leb _ _ low, le-leb _ _ t.headed, le-leb _ _ t.within, le-leb _ _ t.short, le-leb _ _ room)
 
     -- of what the calls gave: outputs p, u and v, scratch and s, control c, nonce m, answer r
-    pub sealed-by : Fair z → (scratch : List ℕ) {w c : ℕ} {m p u s v : List ℕ} {r : Answer}
+    pub sealed-by : Fair z → (scratch : List ℕ) {w c : ℕ} {m p u s v : List ℕ} {r : Result ℕ Fault}
         → w ≡ sent_octets k
         → p ≡ laid o f h (secured_header l f h)
         → u ≡ pasted p h (auxiliary (k % 4) n a q)
@@ -180,12 +179,12 @@ module _ (z : Settings) (key : Key) (l : Layer) (k n a q : ℕ) (f : List ℕ) (
         }
 
 -- what sealing then answers
-module _ {z : Settings} {key : Key} {l : Layer} {k n a q : ℕ} {f : List ℕ} {h : ℕ} {o : List ℕ} {w : ℕ} {r : Answer} {v : List ℕ}
+module _ {z : Settings} {key : Key} {l : Layer} {k n a q : ℕ} {f : List ℕ} {h : ℕ} {o : List ℕ} {w : ℕ} {r : Result ℕ Fault} {v : List ℕ}
     (s : Secures z key l k n a q f h o w r v) where
-  pub after-length : (i : ℕ) → r ≡ Made i → i ≡ length f - h + z.tag
-  after-length i er = let b : counted (Made i) ≡ made (length f - h + z.tag) = ap counted (sym er) ∙ s.answer in cc
+  pub after-length : (i : ℕ) → r ≡ Ok i → i ≡ length f - h + z.tag
+  after-length i er = let b : counted (Ok i) ≡ made (length f - h + z.tag) = ap counted (sym er) ∙ s.answer in cc
 
-  pub after-made : (i : ℕ) → r ≡ Made i → product (made (h + w + i)) v ≡ seals_sealing z key l k n a q f h o
+  pub after-made : (i : ℕ) → r ≡ Ok i → product (made (h + w + i)) v ≡ seals_sealing z key l k n a q f h o
   after-made i er =
       let d = sealed-length z key l k n a q f h s.fits.within in
       let c : h + w + i ≡ length (sealed_frame z key l k n a q f h) = omega (arith, after-length i er, s.wide, s.fits.within) in
@@ -193,8 +192,8 @@ module _ {z : Settings} {key : Key} {l : Layer} {k n a q : ℕ} {f : List ℕ} {
       ∙ sym (sealing-makes z key l k n a q f h o s.low s.fits s.room)
 
   -- the cipher does not refuse
-  pub after-not : {A : Type 0} (e : Fault) → r ≡ Refused e → A
+  pub after-not : {A : Type 0} (e : Fault) → r ≡ Err e → A
   after-not e er =
-      let b : counted (Refused e) ≡ made (length f - h + z.tag) = ap counted (sym er) ∙ s.answer in
+      let b : counted (Err e) ≡ made (length f - h + z.tag) = ap counted (sym er) ∙ s.answer in
       let never : ◌≡◌ {A = ℕ} 0 1 = cc in
       absurd (omega arith)

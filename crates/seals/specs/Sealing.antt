@@ -1,16 +1,12 @@
 -- Document 01, "The auxiliary header and the nonce" and "Opening and sealing" (RULES 6.7): what both layers do with a frame once they
 -- have its key. "L is 2, the tag M is 4 octets".
 -- Assumes nothing.
-use Rattle.std.specs.Prelude.{◌≡◌, Bool, true, false, List, ◌++◌, ℕ, ◌+◌, ◌<◌, length, drop, ◌==◌, nat_le}
+use Rattle.std.specs.Prelude.{◌≡◌, Bool, true, false, List, ◌++◌, ℕ, ◌+◌, ◌<◌, length, drop, ◌==◌, nat_le, Option, Some, None}
 use Rattle.settings.specs.Settings.{Settings, longest, network_aux, aps_aux}
 use Rattle.std.specs.Prelude.{if◌then◌else◌}
 use Rattle.octets.specs.Choice.{both}
 use Rattle.octets.specs.Keys.{Key}
 use Rattle.octets.specs.Lists.{onto}
-use Rattle.seals.specs.declared.Unsealed.{Unsealed}
-use Rattle.seals.specs.declared.Unsealed.TheVariants.{Plain, Forged}
-use Rattle.seals.specs.declared.Enclosed.{Enclosed}
-use Rattle.seals.specs.declared.Enclosed.TheVariants.{Octets, Nothing}
 use Rattle.cipher.specs.Aes.{aes128}
 use Rattle.cipher.specs.Ccm.{ccm_seal, ccm_open, Verdict, valid, invalid}
 use Rattle.cipher.specs.Answers.{tag_length, Count, made, refused, Product, product}
@@ -73,15 +69,15 @@ sealed_frame z key l k counter sender seq f h =
 -- ---- what the routines tell and leave
 
 -- "9: tag wrong". A frame that is not what was announced has no tag that fits; the layers judge it, and the output, before.
-abbrev pub told_unsealed : Unsealed → Count
-told_unsealed (Plain n) = made n
-told_unsealed Forged = refused 9
+abbrev pub told_unsealed : Option ℕ → Count
+told_unsealed (Some n) = made n
+told_unsealed None = refused 9
 
 -- "14: request argument not allowed": an identifier above 3, a header that the frame does not have, no room. The layers
 -- judge all three before.
-abbrev pub told_enclosed : Enclosed → Count
-told_enclosed (Octets n) = made n
-told_enclosed Nothing = refused 14
+abbrev pub told_enclosed : Option ℕ → Count
+told_enclosed (Some n) = made n
+told_enclosed None = refused 14
 
 -- a frame written "at the start of the output; octets after it stay", and its length told
 abbrev pub wrote : List ℕ → List ℕ → Product

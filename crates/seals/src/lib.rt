@@ -9,23 +9,24 @@ ghost use Rattle.cipher.specs.Answers.{sealing as cipher_sealing};
 ghost use Rattle.seals.specs.Sealing.{sound, sent_octets, told_unsealed, told_enclosed, unsealing, looking, sealable};
 ghost use Rattle.seals.specs.Sealing.{sealing as seals_sealing};
 
-use cipher::Answer;
-use frames::{Layer, Secured};
+use cipher::Fault;
+use frames::{Auxiliary, Layer, Secured};
 
-// The length of the plain frame that was made; or 9, tag wrong. So are told, too, a frame that is
-// not what was announced and an output under 116 octets, which the layers judge before.
+// A secured frame that has what it announces: both headers and the tag, a header that has the security
+// bit, and no more than 116 octets.
 #[derive(Clone, Copy)]
-pub enum Unsealed {
-    Plain(usize),
-    Forged,
+pub struct Incoming<'a> {
+    pub frame: &'a [u8],
+    pub secured: Secured,
+    ghost fits: { sound ours frame.now secured ≡ true },
 }
 
-// The length of the secured frame that was made; or 14, argument not allowed: an identifier above
-// 3, a header that the frame does not have, no room.
+// A plain frame that is to be sealed, with so many octets of header.
 #[derive(Clone, Copy)]
-pub enum Enclosed {
-    Octets(usize),
-    Nothing,
+pub struct Outgoing<'a> {
+    pub frame: &'a [u8],
+    pub header: usize,
+    ghost headed: { (2 ≤ header) × (header ≤ length frame.now) },
 }
 
 fn is_sound(f: &[u8], s: Secured) -> bool
@@ -56,14 +57,14 @@ pub fn unseal(
     frame: &[u8],
     secured: Secured,
     out: &mut [u8],
-) -> Unsealed
+) -> Option<usize>
     ensures { product (told_unsealed result) out.new ≡ unsealing ours (the_key key) layer frame.now secured out.old }
 {
     if !is_sound(frame, secured) {
-        return Unsealed::Forged;
+        return None;
     }
     if out.len() < settings::LONGEST {
-        return Unsealed::Forged;
+        return None;
     }
     unseal_sound(key, layer, frame, secured, out)
 }
@@ -77,7 +78,7 @@ fn unseal_body(
     n: usize,
     h: usize,
     out: &mut [u8],
-) -> Answer
+) -> Result<usize, Fault>
     requires { (n ≤ length f.now) × (h ≤ length out.old) }
     ensures out_after { product (counted result) (drop h out.new) ≡ opening ours.tag key nonce a.now (drop n f.now) (drop h out.old) }
     ensures out_unchanged { take h out.new ≡ take h out.old }
@@ -85,7 +86,7 @@ fn unseal_body(
     cipher::unseal(settings::TAG, key, nonce, a, &f[n..], &mut out[h..])
 }
 
-fn unseal_sound(key: [u8; 16], l: Layer, f: &[u8], s: Secured, out: &mut [u8]) -> Unsealed
+fn unseal_sound(key: [u8; 16], l: Layer, f: &[u8], s: Secured, out: &mut [u8]) -> Option<usize>
     requires { (sound ours f.now s ≡ true) × (longest ≤ length out.old) }
     ensures { product (told_unsealed result) out.new ≡ unsealing ours (the_key key) l f.now s out.old }
 {
@@ -94,13 +95,9 @@ fn unseal_sound(key: [u8; 16], l: Layer, f: &[u8], s: Secured, out: &mut [u8]) -
     let mut a = [0u8; settings::LONGEST];
     frames::lay_authenticated(&mut a, f, h, n);
     let nonce = frames::nonce(s.sender, s.counter, s.control);
-    match unseal_body(key, nonce, &a[..n], f, n, h, out) {
-        Answer::Made(m) => {
-            frames::lay_plain_header(out, l, f, h);
-            Unsealed::Plain(h + m)
-        }
-        Answer::Refused(_) => Unsealed::Forged,
-    }
+    let m = unseal_body(key, nonce, &a[..n], f, n, h, out).ok()?;
+    frames::lay_plain_header(out, l, f, h);
+    Some(h + m)
 }
 
 // Whether the tag of a secured frame fits a key. It changes nothing.
@@ -108,10 +105,7 @@ pub fn look(key: [u8; 16], frame: &[u8], secured: Secured) -> bool
     ensures { result ≡ looking ours (the_key key) frame.now secured }
 {
     let mut out = [0u8; settings::LONGEST];
-    match unseal(key, Layer::Aps, frame, secured, &mut out) {
-        Unsealed::Plain(_) => true,
-        Unsealed::Forged => false,
-    }
+    unseal(key, Layer::Aps, frame, secured, &mut out).is_some()
 }
 
 // How many octets of the auxiliary header are sent: only identifier 1 sends a key sequence number.
@@ -146,55 +140,49 @@ fn is_sealable(identifier: u8, f: &[u8], h: usize) -> bool
 pub fn seal(
     key: [u8; 16],
     layer: Layer,
-    identifier: u8,
-    counter: u32,
-    sender: u64,
-    sequence: u8,
+    aux: Auxiliary,
     frame: &[u8],
     header: usize,
     out: &mut [u8],
-) -> Enclosed
-    ensures { product (told_enclosed result) out.new ≡ seals_sealing ours (the_key key) layer identifier counter sender sequence frame.now header out.old }
+) -> Option<usize>
+    ensures { product (told_enclosed result) out.new ≡ seals_sealing ours (the_key key) layer aux.identifier aux.counter aux.sender aux.sequence frame.now header out.old }
 {
-    if 3 < identifier {
-        return Enclosed::Nothing;
+    if 3 < aux.identifier {
+        return None;
     }
-    if !is_sealable(identifier, frame, header) {
-        return Enclosed::Nothing;
+    if !is_sealable(aux.identifier, frame, header) {
+        return None;
     }
     if out.len() < settings::LONGEST {
-        return Enclosed::Nothing;
+        return None;
     }
-    seal_sound(
-        key, layer, identifier, counter, sender, sequence, frame, header, out,
-    )
+    seal_sound(key, layer, aux, frame, header, out)
 }
 
 // Both headers, then the cipher's part behind them.
 fn seal_sound(
     key: [u8; 16],
     l: Layer,
-    identifier: u8,
-    counter: u32,
-    sender: u64,
-    sequence: u8,
+    aux: Auxiliary,
     f: &[u8],
     h: usize,
     out: &mut [u8],
-) -> Enclosed
-    requires { (identifier ≤ 3) × ((sealable ours identifier f.now h ≡ true) × (longest ≤ length out.old)) }
-    ensures { product (told_enclosed result) out.new ≡ seals_sealing ours (the_key key) l identifier counter sender sequence f.now h out.old }
+) -> Option<usize>
+    requires { (aux.identifier ≤ 3) × ((sealable ours aux.identifier f.now h ≡ true) × (longest ≤ length out.old)) }
+    ensures { product (told_enclosed result) out.new ≡ seals_sealing ours (the_key key) l aux.identifier aux.counter aux.sender aux.sequence f.now h out.old }
 {
-    let n = h + sent_octets(identifier);
+    let n = h + sent_octets(aux.identifier);
     frames::lay_secured_header(out, l, f, h);
-    frames::lay_auxiliary(out, h, identifier, counter, sender, sequence);
+    frames::lay_auxiliary(out, h, aux);
     let mut a = [0u8; settings::LONGEST];
     frames::lay_authenticated(&mut a, out, h, n);
-    let nonce = frames::nonce(sender, counter, frames::wire_control(identifier));
-    match seal_body(key, nonce, &a[..n], f, h, n, out) {
-        Answer::Made(m) => Enclosed::Octets(n + m),
-        Answer::Refused(_) => Enclosed::Nothing,
-    }
+    let nonce = frames::nonce(
+        aux.sender,
+        aux.counter,
+        frames::wire_control(aux.identifier),
+    );
+    let m = seal_body(key, nonce, &a[..n], f, h, n, out).ok()?;
+    Some(n + m)
 }
 
 // The cipher's part, which writes behind n octets of out.
@@ -206,7 +194,7 @@ fn seal_body(
     h: usize,
     n: usize,
     out: &mut [u8],
-) -> Answer
+) -> Result<usize, Fault>
     requires { (h ≤ length f.now) × (n ≤ length out.old) }
     ensures out_after { product (counted result) (drop n out.new) ≡ cipher_sealing ours.tag key nonce a.now (drop h f.now) (drop n out.old) }
     ensures out_unchanged { take n out.new ≡ take n out.old }

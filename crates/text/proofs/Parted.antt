@@ -5,41 +5,22 @@ use mathlib.Core.Bool.{Bool, true, false}
 use mathlib.Core.List.{List, [], ◌∷◌}
 use Prim.Native.Nat.{ℕ, zero, suc, ◌+◌, ◌-◌, ◌≤◌, ◌<◌}
 use native.Mathlib.Nat.{not-suc-le-zero}
-use native.Mathlib.Numerals.{add-one}
 use native.Mathlib.Omega.{arith}
-use lib.Dec.{eqb}
-use lib.ListN.{length, get_or, take, drop, drop_of_length-le, length-drop}
+use lib.Dec.{eqb, ltb}
+use lib.ListN.{length, take, drop, drop_of_length-le, length-drop, length-take}
 use lib.Seq.{drop-drop}
-use borrow.Author.Tests.{eq-eqb, ne_eqb}
-use Rattle.octets.proofs.Tabs.{drop-step}
 use Rattle.std.specs.Prelude.{if◌then◌else◌}
+use Rattle.std.proofs.Common.{count_by, position, unwrap_or, cond, Option, Some, None, MatchOption, add-zero, zero-add}
+use borrow.Author.Tests.{ltb-false}
+use Rattle.std.proofs.lemmas.List.Recursion.{is_count_by, is_position_or_len}
+use Rattle.std.specs.List.{position_or_len}
 use Rattle.octets.specs.Lists.{eq_list}
 use Rattle.text.specs.Fields.{until, after, behind, field_at, field_from, tabs, which_of}
 
-module _ (l : List ℕ) (i : ℕ) where
-  pub until-tab : i < length l → get_or l i 0 ≡ 9 → until (drop i l) ≡ []
-  unfolding until
-  until-tab h e = rw (drop-step l i h, eq-eqb (get_or l i 0) 9 e)
-
-  pub until-more : i < length l → (get_or l i 0 ≡ 9 → ⊥) → until (drop i l) ≡ get_or l i 0 ∷ until (drop (i + 1) l)
-  unfolding until
-  until-more h e = rw (drop-step l i h, ne_eqb (get_or l i 0) 9 e)
-
-  pub until_end : length l ≤ i → until (drop i l) ≡ []
-  unfolding until
-  until_end h = rw (drop_of_length-le l h)
-
-  pub tabs-tab : i < length l → get_or l i 0 ≡ 9 → tabs (drop i l) ≡ tabs (drop (i + 1) l) + 1
-  unfolding tabs
-  tabs-tab h e = rw (drop-step l i h, eq-eqb (get_or l i 0) 9 e) (sym (add-one (tabs (drop (i + 1) l))))
-
-  pub tabs-more : i < length l → (get_or l i 0 ≡ 9 → ⊥) → tabs (drop i l) ≡ tabs (drop (i + 1) l)
-  unfolding tabs
-  tabs-more h e = rw (drop-step l i h, ne_eqb (get_or l i 0) 9 e)
-
-  pub tabs-end : length l ≤ i → tabs (drop i l) ≡ 0
-  unfolding tabs
-  tabs-end h = rw (drop_of_length-le l h)
+-- the tabs of a line, counted
+pub tabs-count : (l : List ℕ) → tabs l ≡ count_by (λ x. eqb x 9) l
+unfolding tabs
+tabs-count l = is_count_by tabs (λ x. eqb x 9) refl (λ x m. grind arith) l
 
 pub until_front : (l : List ℕ) → until l ≡ take (length (until l)) l
 unfolding until
@@ -50,6 +31,27 @@ until_front (x ∷ l) = go (until_front l) (eqb x 9)
         → (if t then [] else x ∷ until l) ≡ take (length (if t then [] else x ∷ until l)) (x ∷ l)
     go ih true = refl
     go ih false = ap (λ (m : List ℕ). x ∷ m) ih
+
+-- how much stands before the first tab
+until-place : (l : List ℕ) → length (until l) ≡ position_or_len (λ x. eqb x 9) l
+unfolding until
+until-place l = is_position_or_len (λ m. length (until m)) (λ x. eqb x 9) refl (λ x m. go x (until m) (eqb x 9)) l
+  where
+    go : (x : ℕ) (m : List ℕ) (t : Bool) → length (if t then [] else x ∷ m) ≡ cond t 0 (1 + length m)
+    go x m true = refl
+    go x m false = omega arith
+
+place_or_end : (p n : ℕ) → p ≤ n → unwrap_or (cond (ltb p n) (Some p) None) n ≡ p
+place_or_end p n h = go (ltb p n) refl
+  where
+    go : (t : Bool) → ltb p n ≡ t → unwrap_or (cond t (Some p) None) n ≡ p
+    go true e = refl
+    go false e = omega (arith, ltb-false p n e)
+
+pub first-tab : (l : List ℕ) → unwrap_or (position (λ x. eqb x 9) l) (length l) ≡ length (until l)
+first-tab l =
+    let h : length (until l) ≤ length l = omega (arith, simp length-take at (ap length (until_front l))) in
+    place_or_end _ _ (omega (arith, until-place l, h)) ∙ sym (until-place l)
 
 after-behind : (l : List ℕ) → after l ≡ drop (suc (length (until l))) l
 unfolding until after
@@ -89,26 +91,36 @@ pub field-from : (l : List ℕ) (k i : ℕ) → i ≤ length l → drop i l ≡ 
 unfolding field_from
 field-from l k i h e = omega (arith, length-drop i l, ap length e)
 
--- a field, by the places of its start and its end
-pub field_is : (l : List ℕ) (k i t : ℕ) → drop i l ≡ behind k l → t ≡ i + length (until (drop i l))
-    → take (t - i) (drop i l) ≡ field_at l k
+-- a field, by what is left of the line and how much stands before the next tab there
+pub field_is : (l rest : List ℕ) (k t : ℕ) → rest ≡ behind k l → t ≡ length (until rest) → take t rest ≡ field_at l k
 unfolding field_at
-field_is l k i t e f =
-    let n : t - i ≡ length (until (drop i l)) = omega arith in
-    ap (λ (m : ℕ). take m (drop i l)) n ∙ sym (until_front (drop i l)) ∙ ap until e
+field_is l rest k t e f = ap (λ (n : ℕ). take n rest) f ∙ sym (until_front rest) ∙ ap until e
 
-module _ (l w : List ℕ) (k n : ℕ) (h : k < n) where
-  left : n - k ≡ suc (n - (k + 1))
-  left = omega arith
+-- a search by the number of a field: those below i are not w
+module _ (l w : List ℕ) where
+  abbrev pub IsIt : ℕ → Type 0
+  IsIt k = eq_list (field_at l k) w ≡ true
 
-  pub which-is : eq_list (field_at l k) w ≡ true → which_of l w k (n - k) ≡ k
+  abbrev pub IsNot : ℕ → Type 0
+  IsNot k = eq_list (field_at l k) w ≡ false
+
+  passed : (m j : ℕ) → ((i : ℕ) → i < j → IsNot i) → which_of l w 0 (j + m) ≡ which_of l w j m
   unfolding which_of
-  which-is e = rw (left, e)
+  passed m zero h = rw zero-add
+  passed m (suc j) h =
+      let e : suc j + m ≡ j + suc m = omega arith in
+      let here : eq_list (field_at l j) w ≡ false = h j (omega arith) in
+      let more : which_of l w j (suc m) ≡ which_of l w (suc j) m = rw here in
+      rw e (passed (suc m) j (λ i b. h i (omega arith)) ∙ more)
 
-  pub which-more : eq_list (field_at l k) w ≡ false → which_of l w k (n - k) ≡ which_of l w (k + 1) (n - (k + 1))
+  pub which-found : (n : ℕ) (r : Option ℕ)
+      → MatchOption r ((k : ℕ) → 0 ≤ k → k < n → IsNot k)
+      (λ i. (0 ≤ i) × (i < n) × IsIt i × ((k : ℕ) → 0 ≤ k → k < i → IsNot k))
+      → unwrap_or r n ≡ which_of l w 0 n
   unfolding which_of
-  which-more e = rw (left, e, add-one k)
-
-pub which-none : (l w : List ℕ) (k n : ℕ) → n ≤ k → which_of l w k (n - k) ≡ k
-unfolding which_of
-which-none l w k n h = let z : n - k ≡ 0 = omega arith in rw z
+  which-found n None h = sym (simp add-zero at (passed 0 n (λ i b. h i (omega arith) b)))
+  which-found n (Some i) h =
+      let e : n ≡ i + suc (n - (i + 1)) = omega (arith, h.1) in
+      let here : eq_list (field_at l i) w ≡ true = h.2 in
+      let found : which_of l w i (suc (n - (i + 1))) ≡ i = rw here in
+      sym (ap (which_of l w 0) e ∙ passed (suc (n - (i + 1))) i (λ k b. h.3 k (omega arith) b) ∙ found)

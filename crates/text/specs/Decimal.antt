@@ -1,8 +1,8 @@
 -- The bench language: "B a decimal from 0 to 255, C a decimal from 0 to 4294967295, S a decimal from 0 to 65535; decimals
 -- have no leading zero." Assumes nothing.
-use Rattle.std.specs.Prelude.{Bool, not, List, [], ◌∷◌, ◌++◌, ℕ, zero, suc, ◌/◌, ◌%◌, length, ◌==◌, nat_lt, nat_le, Option, Some, None}
+use Rattle.std.specs.Prelude.{Bool, not, List, [], ◌∷◌, ◌++◌, ℕ, zero, suc, ◌/◌, ◌%◌, length, ◌==◌, nat_lt, nat_le, Option}
+use Rattle.std.specs.Prelude.{Some, None, if◌then◌else◌}
 use Rattle.io.specs.Digits.{hex_digit_ascii}
-use Rattle.std.specs.Prelude.{if◌then◌else◌}
 use Rattle.octets.specs.Choice.{both}
 use Rattle.octets.specs.Lists.{at}
 use Rattle.text.specs.Digits.{all_digits, spelt}

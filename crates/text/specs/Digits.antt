@@ -1,7 +1,6 @@
 -- The bench language: "Hex is read in either case". A decimal's digits are the ten that are worth less than 10.
 -- Assumes nothing.
-use Rattle.std.specs.Prelude.{Bool, true, List, [], ◌∷◌, ℕ, ◌+◌, ◌*◌, ◌-◌, nat_lt}
-use Rattle.std.specs.Prelude.{if◌then◌else◌}
+use Rattle.std.specs.Prelude.{Bool, true, List, [], ◌∷◌, ℕ, ◌+◌, ◌*◌, ◌-◌, nat_lt, if◌then◌else◌}
 use Rattle.octets.specs.Choice.{both}
 
 -- what the octet c is worth as a digit: `0` to `9`, `A` to `F`, `a` to `f`; 16 stands for no digit

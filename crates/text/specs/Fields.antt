@@ -1,7 +1,6 @@
 -- The bench language: "A line is fields parted by one tab and ended by one line feed".
 -- A tab is the octet 9; the line feed is gone when a line comes here. Assumes nothing.
-use Rattle.std.specs.Prelude.{List, [], ◌∷◌, ℕ, zero, suc, ◌+◌, ◌-◌, length, ◌==◌}
-use Rattle.std.specs.Prelude.{if◌then◌else◌}
+use Rattle.std.specs.Prelude.{List, [], ◌∷◌, ℕ, zero, suc, ◌+◌, ◌-◌, length, ◌==◌, if◌then◌else◌}
 use Rattle.octets.specs.Lists.{eq_list}
 
 -- what stands before the first tab

@@ -2,8 +2,8 @@
 -- 0 to 256 octets. Hex is read in either case and written small." How many octets there may be is the room that is lent.
 -- Assumes nothing.
 use Rattle.std.specs.Prelude.{Bool, List, [], ◌∷◌, ℕ, ◌+◌, ◌*◌, ◌/◌, ◌%◌, length, ◌==◌, nat_le, Option, Some, None}
-use Rattle.io.specs.Digits.{hex_digit_ascii, last_digits}
 use Rattle.std.specs.Prelude.{if◌then◌else◌}
+use Rattle.io.specs.Digits.{hex_digit_ascii, last_digits}
 use Rattle.octets.specs.Choice.{both}
 use Rattle.octets.specs.Lists.{onto}
 use Rattle.text.specs.Digits.{digit_of, all_digits, spelt}

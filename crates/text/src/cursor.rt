@@ -6,13 +6,11 @@ ghost use Rattle.octets.specs.Parts.{seen, cut};
 ghost use Rattle.text.specs.Cursor.{ahead};
 
 // Lays src into out at that place. What has no room is left out whole, and the place stays.
+#[tactic(auto, unfolding(crate::specs::Cursor::ahead))]
 pub fn put(out: &mut [u8], at: usize, src: &[u8]) -> usize
     ensures { (out.new ≡ pasted out.old at src.now) × (result ≡ ahead out.old at src.now) }
 {
-    if out.len() < src.len() {
-        return at;
-    }
-    if out.len() - src.len() < at {
+    if out.len() < src.len() || out.len() - src.len() < at {
         return at;
     }
     octets::paste_at(out, at, src);
@@ -23,8 +21,5 @@ pub fn put(out: &mut [u8], at: usize, src: &[u8]) -> usize
 pub fn front(out: &[u8], n: usize) -> &[u8]
     ensures { seen result ≡ cut out.entry 0 n }
 {
-    if out.len() < n {
-        return out;
-    }
-    &out[..n]
+    &out[..n.min(out.len())]
 }

@@ -9,6 +9,7 @@ use crate::cursor::put;
 use crate::digits::{all_digits, digit};
 
 // Reads a number up to most; nothing where s spells none, or a greater one.
+#[tactic(auto, unfolding(crate::specs::Decimal::number_of))]
 pub fn number_of(s: &[u8], most: u32) -> Option<u32>
     ensures { result ≡ number_of s.now most }
 {
@@ -28,39 +29,27 @@ pub fn put_decimal(out: &mut [u8], at: usize, n: u64) -> usize
 }
 
 // Whether s spells a number: digits alone, one at least, and a zero in front only by itself.
+#[tactic(auto, unfolding(crate::specs::Decimal::is_decimal))]
 fn is_decimal(s: &[u8]) -> bool
     ensures { result ≡ is_decimal s.now }
 {
-    if s.len() == 0 {
-        return false;
-    }
-    if zero_led(s) {
-        return false;
-    }
-    all_digits(10, s)
+    !s.is_empty() && !zero_led(s) && all_digits(10, s)
 }
 
+#[tactic(auto, unfolding(crate::specs::Decimal::zero_led))]
 fn zero_led(s: &[u8]) -> bool
     ensures { result ≡ zero_led s.now }
 {
-    if s.len() < 2 {
-        return false;
-    }
-    s[0] == b'0'
+    matches!(s, [b'0', _, ..])
 }
 
-// The number that s spells, if it is at most that. It is left as soon as it is more, so that no
-// spelling is too long for it.
+// The number that s spells, if it is at most that; what does not fit 32 bits is above every limit.
 fn value(s: &[u8], most: u32) -> Option<u32>
     ensures { result ≡ at_most most (spelt 10 0 s.now) }
 {
-    let limit = most as u64;
-    let mut n: u64 = 0;
-    for i in 0..s.len() {
-        n = n * 10 + digit(s[i]) as u64;
-        if limit < n {
-            return None;
-        }
+    let mut n: u32 = 0;
+    for c in s {
+        n = n.checked_mul(10)?.checked_add(u32::from(digit(*c)))?;
     }
-    Some(n as u32)
+    (n <= most).then_some(n)
 }

@@ -1,5 +1,5 @@
 // Octets and addresses in hex. It is read in either case and written small.
-ghost use Rattle.std.specs.Prelude.{◌≡◌, true, ◌*◌, ◌/◌, ◌<◌, ◌≤◌, length, get_or};
+ghost use Rattle.std.specs.Prelude.{◌≡◌, true, ◌/◌, ◌<◌, ◌≤◌, length};
 ghost use Rattle.octets.specs.Lists.{pasted, onto};
 ghost use Rattle.io.specs.Digits.{hex_digit_ascii as glyph};
 ghost use Rattle.text.specs.Cursor.{ahead};
@@ -11,50 +11,42 @@ use crate::digits::{all_digits, digit};
 
 // Reads hex into the front of out, and answers how many octets; nothing where it is no hex, or more than there is
 // room for. All of it is looked at before out is touched, so that a refusal leaves out as it stood.
+#[tactic(auto, unfolding(crate::specs::Hex::unhexed, crate::specs::Hex::is_hex))]
 pub fn octets_of(s: &[u8], out: &mut [u8]) -> Option<usize>
     ensures { read_into result out.new ≡ unhexed s.now out.old }
 {
-    if s.len() % 2 != 0 {
-        return None;
-    }
-    if out.len() < s.len() / 2 {
-        return None;
-    }
-    if !all_digits(16, s) {
+    let n = s.len() / 2;
+    if s.len() % 2 != 0 || out.len() < n || !all_digits(16, s) {
         return None;
     }
     fill(s, out);
-    Some(s.len() / 2)
+    Some(n)
 }
 
 // Reads an address, 16 digits with the most significant first; nothing where s is no such digits.
+#[tactic(auto, unfolding(crate::specs::Hex::address_of))]
 pub fn address_of(s: &[u8]) -> Option<u64>
     ensures { result ≡ address_of s.now }
 {
-    if s.len() != 16 {
-        return None;
+    if s.len() == 16 && all_digits(16, s) {
+        Some(value(s))
+    } else {
+        None
     }
-    if !all_digits(16, s) {
-        return None;
-    }
-    Some(value(s))
 }
 
 // Writes the octets of src in hex.
 pub fn put_hex(out: &mut [u8], at: usize, src: &[u8]) -> usize
     ensures { (out.new ≡ pasted out.old at (hex_of src.now)) × (result ≡ ahead out.old at (hex_of src.now)) }
 {
-    if out.len() / 2 < src.len() {
+    if out.len() / 2 < src.len() || out.len() - src.len() * 2 < at {
         return at;
     }
-    let n = src.len() * 2;
-    if out.len() - n < at {
-        return at;
+    for (j, x) in src.iter().enumerate() {
+        out[at + j * 2] = glyph(x / 16);
+        out[at + j * 2 + 1] = glyph(x % 16);
     }
-    for j in 0..n {
-        out[at + j] = hex_at(src, j);
-    }
-    at + n
+    at + src.len() * 2
 }
 
 // Writes an address.
@@ -72,21 +64,9 @@ fn fill(s: &[u8], out: &mut [u8])
     requires s_value { all_digits 16 s.now ≡ true }
     ensures { out.new ≡ onto (octets_of s.now) out.old }
 {
-    let n = s.len() / 2;
-    for i in 0..n {
-        out[i] = octet_at(s, i);
+    for (i, [high, low]) in s.as_chunks::<2>().0.iter().enumerate() {
+        out[i] = digit(*high) * 16 + digit(*low);
     }
-}
-
-// Octet i of those that s spells.
-fn octet_at(s: &[u8], i: usize) -> u8
-    requires i_in_bounds { i < length s.now / 2 }
-    requires s_value { all_digits 16 s.now ≡ true }
-    ensures { result ≡ get_or (octets_of s.now) i 0 }
-{
-    let high = digit(s[i * 2]);
-    let low = digit(s[i * 2 + 1]);
-    high * 16 + low
 }
 
 // The number that 16 digits spell.
@@ -96,27 +76,16 @@ fn value(s: &[u8]) -> u64
     ensures { result ≡ spelt 16 0 s.now }
 {
     let mut n: u64 = 0;
-    for i in 0..16 {
-        n = n * 16 + digit(s[i]) as u64;
+    for c in s {
+        n = n * 16 + u64::from(digit(*c));
     }
     n
 }
 
-// Digit j of src in hex.
-fn hex_at(src: &[u8], j: usize) -> u8
-    requires { j < length src.now * 2 }
-    ensures { result ≡ get_or (hex_of src.now) j 0 }
-{
-    let x = src[j / 2];
-    if j % 2 == 0 {
-        return glyph(x / 16);
-    }
-    glyph(x % 16)
-}
-
+// Digit d in hex.
 fn glyph(d: u8) -> u8
     requires { d < 16 }
     ensures { result ≡ glyph d }
 {
-    if d < 10 { 48 + d } else { 87 + d }
+    if d < 10 { b'0' + d } else { b'a' + (d - 10) }
 }

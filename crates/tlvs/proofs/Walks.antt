@@ -8,18 +8,17 @@ use native.Mathlib.Nat.{add-zero}
 use native.Mathlib.Omega.{arith}
 use lib.Dec.{eqb, leb}
 use lib.ListN.{length, get_or, drop, drop_of_length-le, length-drop}
-use lib.Seq.{drop-drop}
 use borrow.Author.Tests.{leb-true, leb-false}
 use Rattle.octets.proofs.Choices.{choose}
-use Rattle.octets.proofs.Tabs.{drop-step}
-use Rattle.std.specs.Prelude.{if◌then◌else◌}
+use Rattle.std.proofs.Common.{Option, Some, None, Result, Ok, Err, is_ok, if◌then◌else◌}
+use Rattle.std.specs.Bool.{then_some}
+use Rattle.std.specs.Option.{option_or}
+use Rattle.tlvs.specs.declared.Ill.{Ill}
+use Rattle.tlvs.specs.declared.Value.{Value}
 use Rattle.tlvs.specs.declared.Wanted.{Wanted}
 use Rattle.tlvs.specs.declared.Wanted.TheVariants.{Tag}
-use Rattle.tlvs.specs.declared.Walked.{Walked}
-use Rattle.tlvs.specs.declared.Walked.TheVariants.{Ill, Absent, At}
 use Rattle.tlvs.specs.Filling.{value_size, Tlv, Tlvs, ill, filling, led, tlvs_from}
-use Rattle.tlvs.specs.Looking.{wants, first_of, looked_in, walked, filled, fills, found, among, among_in, tagged}
-use Rattle.tlvs.specs.Code.{earlier, noted}
+use Rattle.tlvs.specs.Looking.{wants, value_of, first_of, looked_in, walked, filled, fills, found, among, among_in, tagged}
 
 -- ---- octets passed
 
@@ -37,131 +36,121 @@ short i zero s h = absurd (omega arith)
 short i (suc n) [] h = refl
 short i (suc n) (o ∷ s) h = short (i + 1) n s (omega arith)
 
-two : (s : List ℕ) (i : ℕ) → i + 2 ≤ length s → drop i s ≡ get_or s i 0 ∷ get_or s (i + 1) 0 ∷ drop (i + 2) s
-two s i h =
-    let q : i + 1 + 1 ≡ i + 2 = omega arith in
-    let next = drop-step s (i + 1) (omega arith) ∙ ap (λ (j : ℕ). get_or s (i + 1) 0 ∷ drop j s) q in
-    drop-step s i (omega arith) ∙ ap (λ (l : List ℕ). get_or s i 0 ∷ l) next
+one : (s : List ℕ) → length s ≡ 1 → s ≡ get_or s 0 0 ∷ []
+one [] h = absurd (omega arith)
+one (t ∷ []) h = refl
+one (t ∷ n ∷ s) h = absurd (omega arith)
+
+two : (s : List ℕ) → 2 ≤ length s → s ≡ get_or s 0 0 ∷ get_or s 1 0 ∷ drop 2 s
+two [] h = absurd (omega arith)
+two (t ∷ []) h = absurd (omega arith)
+two (t ∷ n ∷ s) h = refl
 
 -- ---- turns of the loop
 
 -- what is found in all, where x was seen before and y is found in the rest
-abbrev pub after : Walked → Walked → Walked
-after Ill y = Ill
-after Absent y = y
-after (At i n) Ill = Ill
-after (At i n) Absent = At i n
-after (At i n) (At j m) = At i n
+abbrev pub after : Option Value → Result (Option Value) Ill → Result (Option Value) Ill
+after x (Err e) = Err e
+after x (Ok y) = Ok (option_or x y)
 
-after-absent : (x : Walked) → after x Absent ≡ x
-after-absent Ill = refl
-after-absent Absent = refl
-after-absent (At i n) = refl
+after-none : (x : Option Value) → after x (Ok None) ≡ Ok x
+after-none None = refl
+after-none (Some v) = refl
 
-after-ill : (x : Walked) → after x Ill ≡ Ill
-after-ill Ill = refl
-after-ill Absent = refl
-after-ill (At i n) = refl
-
--- a list of TLVs is not ill
-first-sound : (w : Wanted) (ts : List Tlv) → first_of w ts ≡ Ill → ⊥
-first-sound w [] e = let never : ◌≡◌ {A = ℕ} 0 1 = cc in absurd (omega arith)
-first-sound w (t ∷ ts) e = go (wants w t.tag t.size) (first-sound w ts) e
-  where
-    go : (b : Bool) → (first_of w ts ≡ Ill → ⊥) → (if b then At t.start t.size else first_of w ts) ≡ Ill → ⊥
-    go true ih e = let never : ◌≡◌ {A = ℕ} 0 1 = cc in absurd (omega arith)
-    go false ih e = ih e
+after-all : (y : Result (Option Value) Ill) → after None y ≡ y
+after-all (Err e) = refl
+after-all (Ok y) = refl
 
 -- what is found from a TLV on, by whether that one is wanted
-led-next : (w : Wanted) (t : Tlv) (ts : Tlvs) (x : Walked)
-    → after x (looked_in w (led t ts)) ≡ after (noted x (wants w t.tag t.size) t.start t.size) (looked_in w ts)
-unfolding earlier noted
-led-next w t ill x = after-ill x ∙ sym (after-ill (noted x (wants w t.tag t.size) t.start t.size))
-led-next w t (filling ts) x = go x (wants w t.tag t.size) (first_of w ts) (first-sound w ts)
+led-next : (w : Wanted) (t : Tlv) (ts : Tlvs) (x : Option Value)
+    → after x (looked_in w (led t ts)) ≡ after (option_or x (then_some (wants w t.tag t.size) (value_of t))) (looked_in w ts)
+led-next w t ill x = refl
+led-next w t (filling ts) x = ap (λ (o : Option Value). Ok o) (go x (wants w t.tag t.size))
   where
-    go : (x : Walked) (b : Bool) (y : Walked) → (y ≡ Ill → ⊥)
-        → after x (if b then At t.start t.size else y) ≡ after (noted x b t.start t.size) y
-    go x b Ill h = absurd (h refl)
-    go Ill true Absent h = refl
-    go Ill true (At j m) h = refl
-    go Ill false Absent h = refl
-    go Ill false (At j m) h = refl
-    go Absent true Absent h = refl
-    go Absent true (At j m) h = refl
-    go Absent false Absent h = refl
-    go Absent false (At j m) h = refl
-    go (At i n) true Absent h = refl
-    go (At i n) true (At j m) h = refl
-    go (At i n) false Absent h = refl
-    go (At i n) false (At j m) h = refl
+    go : (x : Option Value) (b : Bool)
+        → option_or x (if b then Some (value_of t) else first_of w ts)
+        ≡ option_or (option_or x (then_some b (value_of t))) (first_of w ts)
+    go None true = refl
+    go None false = refl
+    go (Some v) true = refl
+    go (Some v) false = refl
 
-module _ (w : Wanted) (s : List ℕ) (x : Walked) (i : ℕ) where
-  -- all that is found, where the walk stands at place i and has seen x
-  abbrev pub Stands : Type 0
-  Stands = walked w s ≡ after x (looked_in w (tlvs_from i 0 (drop i s)))
+-- all that is found, where the walk has `rest` left and has seen x
+abbrev pub Stands : Wanted → List ℕ → Option Value → List ℕ → Type 0
+Stands w s x rest = walked w s ≡ after x (looked_in w (tlvs_from (length s - length rest) 0 rest))
 
-  pub walk-done : Stands → length s ≤ i → x ≡ walked w s
-  unfolding tlvs_from
-  walk-done e h = sym (e ∙ ap (λ (l : List ℕ). after x (looked_in w (tlvs_from i 0 l))) (drop_of_length-le s h) ∙ after-absent x)
+-- the walk begins with all of s left and nothing seen
+pub walk-from : (w : Wanted) (s : List ℕ) → Stands w s None s
+unfolding walked
+walk-from w s =
+    let z : 0 ≡ length s - length s = omega arith in
+    sym (after-all (looked_in w (tlvs_from 0 0 s))) ∙ ap (λ (i : ℕ). after None (looked_in w (tlvs_from i 0 s))) z
 
-  pub walk-bare : Stands → i < length s → length s - i < 2 → Ill ≡ walked w s
-  unfolding tlvs_from
-  walk-bare e h k =
-      let end = drop_of_length-le s {i = i + 1} (omega arith) in
-      let q : drop i s ≡ get_or s i 0 ∷ [] = drop-step s i h ∙ ap (λ (l : List ℕ). get_or s i 0 ∷ l) end in
-      sym (e ∙ ap (λ (l : List ℕ). after x (looked_in w (tlvs_from i 0 l))) q ∙ after-ill x)
+module _ (w : Wanted) (s : List ℕ) (x : Option Value) (rest : List ℕ) (e : Stands w s x rest) where
+  in_rest : List ℕ → Result (Option Value) Ill
+  in_rest l = after x (looked_in w (tlvs_from (length s - length rest) 0 l))
 
-  turned : (n : ℕ) → Stands → i + 2 ≤ length s → n ≡ value_size (get_or s (i + 1) 0)
-      → walked w s ≡ after (noted x (wants w (get_or s i 0) n) (i + 2) n) (looked_in w (tlvs_from (i + 2) n (drop (i + 2) s)))
-  unfolding tlvs_from
-  turned n e h q =
-      e ∙ ap (λ (l : List ℕ). after x (looked_in w (tlvs_from i 0 l))) (two s i h)
-      ∙ led-next w (record { tag = get_or s i 0; start = i + 2; size = value_size (get_or s (i + 1) 0) })
-      (tlvs_from (i + 2) (value_size (get_or s (i + 1) 0)) (drop (i + 2) s)) x
-      ∙ ap (λ (m : ℕ). after (noted x (wants w (get_or s i 0) m) (i + 2) m) (looked_in w (tlvs_from (i + 2) m (drop (i + 2) s)))) (sym q)
+  pub walk-done : length rest ≡ 0 → Ok x ≡ walked w s
+  unfolding tlvs_from in_rest
+  walk-done h = sym (e ∙ ap in_rest (drop_of_length-le rest {i = 0} (omega arith)) ∙ after-none x)
 
-  pub walk-cut : (n : ℕ) → Stands → i + 2 ≤ length s → n ≡ value_size (get_or s (i + 1) 0) → length s - i - 2 < n → Ill ≡ walked w s
-  walk-cut n e h q k =
-      sym (turned n e h q
-      ∙ ap (λ (ts : Tlvs). after (noted x (wants w (get_or s i 0) n) (i + 2) n) (looked_in w ts))
-      (short (i + 2) n (drop (i + 2) s) (rw (length-drop (i + 2) s) (omega arith)))
-      ∙ after-ill (noted x (wants w (get_or s i 0) n) (i + 2) n))
+  pub walk-bare : length rest < 2 → (length rest ≡ 0 → ⊥) → Err (record {}) ≡ walked w s
+  unfolding tlvs_from in_rest
+  walk-bare h k = sym (e ∙ ap in_rest (one rest (omega arith)))
 
-  pub walk-next : (n : ℕ) → Stands → i + 2 ≤ length s → n ≡ value_size (get_or s (i + 1) 0) → n ≤ length s - i - 2
-      → walked w s ≡ after (noted x (wants w (get_or s i 0) n) (i + 2) n) (looked_in w (tlvs_from (i + 2 + n) 0 (drop (i + 2 + n) s)))
-  walk-next n e h q k =
-      turned n e h q
-      ∙ ap (λ (ts : Tlvs). after (noted x (wants w (get_or s i 0) n) (i + 2) n) (looked_in w ts))
-      (pass (i + 2) n (drop (i + 2) s) (rw (length-drop (i + 2) s) (omega arith))
-      ∙ ap (tlvs_from (i + 2 + n) 0) (drop-drop n (i + 2) s))
+  -- what was seen, when a TLV passes whose value has n octets and starts at place i
+  seen : ℕ → ℕ → Option Value
+  seen i n = option_or x (then_some (wants w (get_or rest 0 0) n) (record { start = i; size = n }))
+
+  turned : (i n : ℕ) → 2 ≤ length rest → i ≡ length s - length rest + 2 → n ≡ value_size (get_or rest 1 0)
+      → walked w s ≡ after (seen i n) (looked_in w (tlvs_from i n (drop 2 rest)))
+  unfolding tlvs_from in_rest seen
+  turned i n h p q =
+      rw (p, q)
+      (e ∙ ap in_rest (two rest h)
+      ∙ led-next w (record { tag = get_or rest 0 0; start = length s - length rest + 2; size = value_size (get_or rest 1 0) })
+      (tlvs_from (length s - length rest + 2) (value_size (get_or rest 1 0)) (drop 2 rest)) x)
+
+  module _ (tail : List ℕ) (t : tail ≡ drop 2 rest) (n : ℕ) (h : 2 ≤ length rest) (q : n ≡ value_size (get_or rest 1 0)) where
+    pub walk-cut : length tail < n → Err (record {}) ≡ walked w s
+    walk-cut k =
+        let i = length s - length rest + 2 in
+        sym (turned i n h refl q
+        ∙ ap (λ (ts : Tlvs). after (seen i n) (looked_in w ts)) (short i n (drop 2 rest) (omega (arith, ap length t))))
+
+    pub walk-next : (y : Option Value) (left : List ℕ)
+        → y ≡ option_or x (then_some (wants w (get_or rest 0 0) n) (record { start = length s - length tail; size = n }))
+        → left ≡ drop n tail → length rest ≤ length s → n ≤ length tail → Stands w s y left
+    unfolding seen
+    walk-next y left v l m k =
+        let from = length s - length tail in
+        let long : length tail + 2 ≡ length rest = omega (arith, ap length t, length-drop 2 rest) in
+        let start : from ≡ length s - length rest + 2 = omega arith in
+        let end : from + n ≡ length s - length left = omega (arith, ap length l, length-drop n tail) in
+        turned from n h start q
+        ∙ ap (λ (o : Option Value). after o (looked_in w (tlvs_from from n (drop 2 rest)))) (sym v)
+        ∙ ap (λ (ts : Tlvs). after y (looked_in w ts))
+        (pass from n (drop 2 rest) (omega (arith, ap length t))
+        ∙ ap (λ (j : ℕ). tlvs_from j 0 (drop n (drop 2 rest))) end
+        ∙ ap (tlvs_from (length s - length left) 0) (sym (l ∙ ap (drop n) t)))
 
 -- ---- filling
 
 -- whatever is looked for, a walk that does not end ill was over TLVs that fill
-abbrev pub is_sound : Walked → Bool
-is_sound Ill = false
-is_sound Absent = true
-is_sound (At i n) = true
-
-pub fills-walked : (w : Wanted) (s : List ℕ) (x : Walked) → walked w s ≡ x → fills s ≡ is_sound x
+pub fills_walked : (w : Wanted) (s : List ℕ) → is_ok (walked w s) ≡ fills s
 unfolding fills walked
-fills-walked w s x e = go (tlvs_from 0 0 s) ∙ ap is_sound e
+fills_walked w s = go (tlvs_from 0 0 s)
   where
-    sound : (x : Walked) → (x ≡ Ill → ⊥) → true ≡ is_sound x
-    sound Ill h = absurd (h refl)
-    sound Absent h = refl
-    sound (At i n) h = refl
-
-    go : (ts : Tlvs) → filled ts ≡ is_sound (looked_in w ts)
+    go : (ts : Tlvs) → is_ok (looked_in w ts) ≡ filled ts
     go ill = refl
-    go (filling ts) = sound (first_of w ts) (first-sound w ts)
+    go (filling ts) = refl
 
 -- ---- what was found lies inside, and is never empty
 
-abbrev pub Inside : ℕ → Walked → Type 0
-Inside m Ill = 0 ≤ m
-Inside m Absent = 0 ≤ m
-Inside m (At i n) = (i + n ≤ m) × (1 ≤ n)
+abbrev pub Inside : ℕ → Result (Option Value) Ill → Type 0
+Inside m (Err e) = 0 ≤ m
+Inside m (Ok None) = 0 ≤ m
+Inside m (Ok (Some v)) = (v.start + v.size ≤ m) × (1 ≤ v.size)
 
 -- "no value is empty" (document 02 (iv))
 value-some : (n : ℕ) → 1 ≤ value_size n
@@ -172,7 +161,8 @@ led-inside : (m : ℕ) (w : Wanted) (t : Tlv) (ts : Tlvs) → (t.start + t.size 
     → Inside m (looked_in w (led t ts))
 led-inside m w t ill h k = omega arith
 led-inside m w t (filling ts) h k =
-    choose (Inside m) (wants w t.tag t.size) (At t.start t.size) (first_of w ts) (λ _. h) (λ _. k)
+    choose (λ (o : Option Value). Inside m (Ok o)) (wants w t.tag t.size) (Some (value_of t)) (first_of w ts)
+    (λ _. h) (λ _. k)
 
 from-inside : (w : Wanted) (i n : ℕ) (s : List ℕ) → Inside (i + length s) (looked_in w (tlvs_from i n s))
 unfolding tlvs_from
@@ -202,13 +192,13 @@ walked-inside w s =
 
 -- ---- a tag is found just where a TLV has it
 
-first-among : (a : ℕ) (ts : List Tlv) → found (first_of (Tag a) ts) ≡ among a ts
+first-among : (a : ℕ) (ts : List Tlv) → found (Ok (first_of (Tag a) ts)) ≡ among a ts
 unfolding wants
 first-among a [] = refl
 first-among a (t ∷ ts) = go (eqb t.tag a) (first-among a ts)
   where
-    go : (b : Bool) → found (first_of (Tag a) ts) ≡ among a ts
-        → found (if b then At t.start t.size else first_of (Tag a) ts) ≡ (if b then true else among a ts)
+    go : (b : Bool) → found (Ok (first_of (Tag a) ts)) ≡ among a ts
+        → found (Ok (if b then Some (value_of t) else first_of (Tag a) ts)) ≡ (if b then true else among a ts)
     go true e = refl
     go false e = e
 

@@ -1,14 +1,14 @@
 -- Document 01, "The commands" (RULES 9.3): "the value of the first TLV of a named tag"; and Relay's rule, "at least one of tag 0 with
 -- 8 or more octets".
 -- Assumes nothing.
-use Rattle.std.specs.Prelude.{Bool, true, false, List, [], ◌∷◌, ℕ, ◌==◌, nat_le}
+use Rattle.std.specs.Prelude.{Bool, true, false, List, [], ◌∷◌, ℕ, ◌==◌, nat_le, Option, Some, None, Result, Ok, Err}
 use Rattle.std.specs.Prelude.{if◌then◌else◌}
 use Rattle.octets.specs.Choice.{both}
 use Rattle.tlvs.specs.declared.Wanted.{Wanted}
-use Rattle.tlvs.specs.declared.Walked.{Walked}
+use Rattle.tlvs.specs.declared.Value.{Value}
+use Rattle.tlvs.specs.declared.Ill.{Ill}
 use Rattle.tlvs.specs.Filling.{Tlv, Tlvs, ill, filling, tlvs_of}
 use Rattle.tlvs.specs.declared.Wanted.TheVariants as wanted
-use Rattle.tlvs.specs.declared.Walked.TheVariants as walks
 
 -- the least value that Relay asks for
 abbrev pub relay_octets : ℕ
@@ -20,16 +20,20 @@ wants wanted.Nothing t n = false
 wants (wanted.Tag a) t n = t == a
 wants wanted.Relay t n = both (t == 0) (nat_le relay_octets n)
 
-abbrev pub first_of : Wanted → List Tlv → Walked
-first_of w [] = walks.Absent
-first_of w (t ∷ ts) = if wants w t.tag t.size then walks.At t.start t.size else first_of w ts
+-- the value of a TLV
+abbrev pub value_of : Tlv → Value
+value_of t = record { start = t.start; size = t.size }
 
-abbrev pub looked_in : Wanted → Tlvs → Walked
-looked_in w ill = walks.Ill
-looked_in w (filling ts) = first_of w ts
+abbrev pub first_of : Wanted → List Tlv → Option Value
+first_of w [] = None
+first_of w (t ∷ ts) = if wants w t.tag t.size then Some (value_of t) else first_of w ts
+
+abbrev pub looked_in : Wanted → Tlvs → Result (Option Value) Ill
+looked_in w ill = Err (record {})
+looked_in w (filling ts) = Ok (first_of w ts)
 
 -- the first TLV of s that is looked for; ill where s has octets that TLVs do not fill
-unfoldable pub walked : Wanted → List ℕ → Walked
+unfoldable pub walked : Wanted → List ℕ → Result (Option Value) Ill
 walked w s = looked_in w (tlvs_of s)
 
 -- "filling the rest exactly"
@@ -41,10 +45,10 @@ unfoldable pub fills : List ℕ → Bool
 fills s = filled (tlvs_of s)
 
 -- Relay's rule
-abbrev pub found : Walked → Bool
-found walks.Ill = false
-found walks.Absent = false
-found (walks.At i n) = true
+abbrev pub found : Result (Option Value) Ill → Bool
+found (Err e) = false
+found (Ok None) = false
+found (Ok (Some v)) = true
 
 unfoldable pub relays : List ℕ → Bool
 relays s = found (walked wanted.Relay s)

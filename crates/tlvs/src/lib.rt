@@ -3,11 +3,7 @@
 
 ghost use Rattle.std.specs.Prelude.{◌≡◌, ◌≤◌};
 ghost use Rattle.tlvs.specs.Filling.{value_size};
-ghost use Rattle.tlvs.specs.Looking.{wants, walked};
-ghost use Rattle.tlvs.specs.Code.{earlier};
-ghost use Rattle.tlvs.specs.Code.{noted};
-ghost use Rattle.tlvs.specs.Looking.{fills};
-ghost use Rattle.tlvs.specs.Looking.{relays};
+ghost use Rattle.tlvs.specs.Looking.{wants, walked, fills, relays};
 ghost use Rattle.tlvs.specs.declared.Wanted.{Wanted};
 
 // What a walk looks for: nothing, a tag, or the TLV that Relay asks for.
@@ -18,22 +14,26 @@ pub enum Wanted {
     Relay,
 }
 
-// What a walk found: octets that are no TLVs, none that is wanted, or the place and the size of the
-// value of the first one.
+// Where the value of a TLV starts, and how many octets it has.
 #[derive(Clone, Copy)]
-pub enum Walked {
-    Ill,
-    Absent,
-    At(usize, usize),
+pub struct Value {
+    pub start: usize,
+    pub size: usize,
 }
 
+// That TLVs do not fill the octets.
+#[derive(Clone, Copy)]
+pub struct Ill;
+
 // A length octet says one less than its value has (02 (iv)): 256 octets at most, and never none.
+#[tactic(auto, unfolding(crate::specs::Filling::value_size))]
 fn value_size(n: u8) -> usize
     ensures { (result ≡ value_size n) × (result ≤ 256) }
 {
-    n as usize + 1
+    usize::from(n) + 1
 }
 
+#[tactic(auto, unfolding(crate::specs::Looking::wants))]
 fn is_wanted(w: Wanted, tag: u8, size: usize) -> bool
     ensures { result ≡ wants w tag size }
 {
@@ -44,75 +44,44 @@ fn is_wanted(w: Wanted, tag: u8, size: usize) -> bool
     }
 }
 
-// Of two things that were seen one after another, the one that counts.
-fn earlier(first: Walked, then: Walked) -> Walked
-    ensures { result ≡ earlier first then }
-{
-    match first {
-        Walked::Ill => Walked::Ill,
-        Walked::Absent => then,
-        Walked::At(i, n) => Walked::At(i, n),
-    }
-}
-
-fn noted(seen: Walked, hit: bool, value: usize, size: usize) -> Walked
-    ensures { result ≡ noted seen hit value size }
-{
-    if hit {
-        return earlier(seen, Walked::At(value, size));
-    }
-    seen
-}
-
-// Walks over all of s, whatever it finds on the way: a wanted TLV counts only where the last octet
-// of s is the last one of a TLV.
-fn walk(s: &[u8], w: Wanted) -> Walked
+// The first TLV that is wanted. The walk is over all of s, whatever it finds on the way: a wanted TLV counts only where
+// the last octet of s is the last one of a TLV.
+fn walk(s: &[u8], w: Wanted) -> Result<Option<Value>, Ill>
     ensures { result ≡ walked w s.now }
 {
-    let mut seen = Walked::Absent;
-    let mut i: usize = 0;
-    while i < s.len() {
-        if s.len() - i < 2 {
-            return Walked::Ill;
+    let mut seen = None;
+    let mut rest = s;
+    while let [tag, n, tail @ ..] = rest {
+        let size = value_size(*n);
+        if tail.len() < size {
+            return Err(Ill);
         }
-        let tag = s[i];
-        let size = value_size(s[i + 1]);
-        if s.len() - i - 2 < size {
-            return Walked::Ill;
-        }
-        let hit = is_wanted(w, tag, size);
-        let value = i + 2;
-        let next = noted(seen, hit, value, size);
-        seen = next;
-        i = value + size;
+        let start = s.len() - tail.len();
+        let hit = is_wanted(w, *tag, size).then_some(Value { start, size });
+        seen = seen.or(hit);
+        rest = &tail[size..];
     }
-    seen
+    if rest.is_empty() { Ok(seen) } else { Err(Ill) }
 }
 
 // Whether TLVs, zero or more, fill s exactly.
+#[tactic(auto, using(crate::proofs::Walks::fills_walked))]
 pub fn fills(s: &[u8]) -> bool
     ensures { result ≡ fills s.now }
 {
-    match walk(s, Wanted::Nothing) {
-        Walked::Ill => false,
-        Walked::Absent => true,
-        Walked::At(_, _) => true,
-    }
+    walk(s, Wanted::Nothing).is_ok()
 }
 
 // Whether TLVs fill s exactly, and one of them is what Relay asks for.
+#[tactic(auto, unfolding(crate::specs::Looking::relays))]
 pub fn relays(s: &[u8]) -> bool
     ensures { result ≡ relays s.now }
 {
-    match walk(s, Wanted::Relay) {
-        Walked::Ill => false,
-        Walked::Absent => false,
-        Walked::At(_, _) => true,
-    }
+    matches!(walk(s, Wanted::Relay), Ok(Some(_)))
 }
 
 // The value of the first TLV of that tag.
-pub fn first_of(s: &[u8], tag: u8) -> Walked
+pub fn first_of(s: &[u8], tag: u8) -> Result<Option<Value>, Ill>
     ensures { result ≡ walked (Wanted.Tag tag) s.now }
 {
     walk(s, Wanted::Tag(tag))

@@ -3,6 +3,7 @@
 -- to refuse, to the same plain command. It is over any fair settings, as the round trip is on which it stands; at our settings
 -- the command has 3 to 80 octets.
 -- Assumes nothing.
+use Rattle.std.proofs.Common.{Some}
 use mathlib.Core.Path.{◌≡◌, refl, sym, ap, subst, ◌∙◌}
 use mathlib.Core.Bool.{Bool, true, false}
 use mathlib.Core.List.{List, [], append_assoc}
@@ -23,7 +24,6 @@ use Rattle.frames.specs.Making.{secured_header}
 use Rattle.frames.specs.Tunnelling.{may_tunnel}
 use Rattle.frames.proofs.MayTunnel.{sealed-may-tunnel}
 use Rattle.board.specs.declared.Board.{Board}
-use Rattle.board.specs.declared.Place.TheVariants.{At}
 use Rattle.board.specs.State.{link_at}
 use Rattle.board.specs.Requests.{link_of}
 use Rattle.board.specs.Sending.{spent, Framed, framed}
@@ -116,7 +116,7 @@ pub record Through (z : Settings) (b : Board) (f : List ℕ) (a k : ℕ) (o : Li
 pub through : (z : Settings) → Fair z → (b : Board) (f : List ℕ) (a k : ℕ) (o : List ℕ) (m x : ℕ) → Octets f → b.outgoing < 2 ^ 32
     → b.own < 2 ^ 64 → no_address b.own ≡ false
     → aps_type (at f 0) ≡ 1 → ack_request (at f 0) ≡ 0 → 3 ≤ length f → length f ≤ longest_wrapped z
-    → (seal_aps z b f a k o).answer ≡ sealed m → link_of b.links a ≡ At x
+    → (seal_aps z b f a k o).answer ≡ sealed m → link_of b.links a ≡ Some x
     → (w : Board) (ack : Bool) (d : ℕ) (p : List ℕ) → d < 2 ^ 64 → longest_aps ≤ length p → Through z b f a k o m x w ack d p
 through z fair b f a k o m x of hn ha ho command quiet least most e ex w ack d p hd room =
     record {
@@ -151,6 +151,6 @@ through z fair b f a k o m x of hn ha ho command quiet least most e ex w ack d p
 pub our-through : (b : Board) (f : List ℕ) (a k : ℕ) (o : List ℕ) (m x : ℕ) → Octets f → b.outgoing < 2 ^ 32
     → b.own < 2 ^ 64 → no_address b.own ≡ false
     → aps_type (at f 0) ≡ 1 → ack_request (at f 0) ≡ 0 → 3 ≤ length f → length f ≤ 80
-    → (seal_aps ours b f a k o).answer ≡ sealed m → link_of b.links a ≡ At x
+    → (seal_aps ours b f a k o).answer ≡ sealed m → link_of b.links a ≡ Some x
     → (w : Board) (ack : Bool) (d : ℕ) (p : List ℕ) → d < 2 ^ 64 → longest_aps ≤ length p → Through ours b f a k o m x w ack d p
 our-through = through ours ours-fair

@@ -12,4 +12,4 @@ returns-then-input-gt256 c = search tests
 
 pub returns : goal.returns
 unfolding hashing hash_of
-returns c = simp (le-leb _ _ c.if-input-gt256.false, c.hash_from-octets.ensures, pad-none c.args.input.now)
+returns c = simp (le-leb _ _ c.if-input-gt256.false, c.hash_from.ensures, pad-none c.args.input.now)

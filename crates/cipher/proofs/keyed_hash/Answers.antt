@@ -10,4 +10,4 @@ returns-then-input-gt240 c = search tests
 
 pub returns : goal.returns
 unfolding keyed_hashing
-returns c = simp (le-leb _ _ c.if-input-gt240.false, c.keyed_hash_of-octets.ensures)
+returns c = simp (le-leb _ _ c.if-input-gt240.false, c.keyed_hash_of.ensures)

@@ -1,60 +1,53 @@
 -- The returns are the tests of `sealing`, in its order. An allowed tag has at most 16 octets, so no sum overflows.
-use mathlib.Core.Path.{sym, ◌∙◌}
+use mathlib.Core.Path.{◌≡◌, sym, ap, ◌∙◌}
+use Prim.Native.Nat.{ℕ}
 use native.Mathlib.Omega.{arith}
 use borrow.Author.Tests.{le-leb, lt-leb}
-use Rattle.cipher.specs.Answers.{sealing}
+use Rattle.std.proofs.Common.{rules, Result, Err}
+use Rattle.cipher.specs.declared.Fault.{Fault}
+use Rattle.cipher.specs.Answers.{product, counted, sealing}
 use Rattle.cipher.specs.Aes.{aes128}
 use Rattle.cipher.proofs.Opens.{tag-most}
+use Rattle.cipher.proofs.Refusals.{passed, not-sealed}
 use Rattle.cipher.proofs.seal.Goals as goal
 
-pub returns-then-not-tag_length : goal.returns-then-not-tag_length
-unfolding sealing
-returns-then-not-tag_length c = simp (sym c.tag_length.ensures ∙ c.if-not-tag_length.true)
-
-pub returns-then-authenticated-gt128 : goal.returns-then-authenticated-gt128
-unfolding sealing
-returns-then-authenticated-gt128 c = simp (sym c.tag_length.ensures ∙ c.if-not-tag_length.false, lt-leb _ _ c.if-authenticated-gt128.true)
+pub returns-in_err-judged : goal.returns-in_err-judged
+returns-in_err-judged c =
+    let x = c.args in
+    let e : c.from_residual.result ≡ Err c.in_err-judged.field-0.0 = search rules in
+    ap (λ (r : Result ℕ Fault). product (counted r) x.out.now) e
+    ∙ not-sealed x.tag x.authenticated.now x.key x.nonce x.payload.now x.out.now _
+    (sym c.judged.ensures ∙ c.in_err-judged.was)
 
 pub returns-then-payload-gt128 : goal.returns-then-payload-gt128
 unfolding sealing
 returns-then-payload-gt128 c =
-    simp (
-      sym c.tag_length.ensures ∙ c.if-not-tag_length.false,
-      le-leb _ _ c.if-authenticated-gt128.false,
-      lt-leb _ _ c.if-payload-gt128.true,
-    )
+    let p = passed _ _ (sym c.judged.ensures ∙ c.in_ok-judged.was) in
+    simp (p.0, p.1, lt-leb _ _ c.if-payload-gt128.true)
 
 pub overflow_add-payload : goal.overflow_add-payload
-overflow_add-payload c = let h = tag-most _ (sym c.tag_length.ensures ∙ c.if-not-tag_length.false) in omega arith
+overflow_add-payload c =
+    let h = tag-most _ (passed _ _ (sym c.judged.ensures ∙ c.in_ok-judged.was)).0 in
+    omega arith
 
 pub returns-then-out-payload : goal.returns-then-out-payload
 unfolding sealing
 returns-then-out-payload c =
-    simp (
-      sym c.tag_length.ensures ∙ c.if-not-tag_length.false,
-      le-leb _ _ c.if-authenticated-gt128.false,
-      le-leb _ _ c.if-payload-gt128.false,
-      lt-leb _ _ c.if-out-payload.true,
-    )
+    let p = passed _ _ (sym c.judged.ensures ∙ c.in_ok-judged.was) in
+    simp (p.0, p.1, le-leb _ _ c.if-payload-gt128.false, lt-leb _ _ c.if-out-payload.true)
 
-pub seal_with-requires : goal.seal_with-requires
-seal_with-requires c =
-    let h = tag-most _ (sym c.tag_length.ensures ∙ c.if-not-tag_length.false) in
-    (c.table-sbox.ensures, (h, c.if-out-payload.false))
-
-pub overflow_add-result : goal.overflow_add-result
-overflow_add-result c =
-    let h = tag-most _ (sym c.tag_length.ensures ∙ c.if-not-tag_length.false) in
-    omega (arith, c.if-payload-gt128.false)
+pub invariant_of-ccm : goal.invariant_of-ccm
+invariant_of-ccm c = record { short = tag-most _ (passed _ _ (sym c.judged.ensures ∙ c.in_ok-judged.was)).0 }
 
 pub returns : goal.returns
 unfolding sealing aes128
 returns c =
+    let p = passed _ _ (sym c.judged.ensures ∙ c.in_ok-judged.was) in
     simp (
-      sym c.tag_length.ensures ∙ c.if-not-tag_length.false,
-      le-leb _ _ c.if-authenticated-gt128.false,
+      p.0,
+      p.1,
       le-leb _ _ c.if-payload-gt128.false,
       le-leb _ _ c.if-out-payload.false,
-      c.seal_with.ensures,
-      c.expand-keys.ensures,
+      c.seal.ensures,
+      c.expand.ensures,
     )

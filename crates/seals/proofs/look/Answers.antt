@@ -1,24 +1,16 @@
 -- Whether unsealing makes a frame hangs on key, frame and fields alone, not on layer or output; the scratch has room.
-use mathlib.Core.Path.{sym, ap, ◌∙◌}
+use mathlib.Core.Path.{◌∙◌}
 use native.Mathlib.Omega.{arith}
 use lib.ListN.{replicate}
 use Rattle.settings.specs.Settings.{ours, longest}
 use Rattle.octets.specs.Keys.{the_key}
-use Rattle.seals.specs.Sealing.{told_unsealed}
-use Rattle.seals.proofs.Looked.{looked, is_made}
+use Rattle.seals.proofs.Looked.{looked, made-some}
 use Rattle.frames.specs.declared.Layer.TheVariants.{Aps}
 use Rattle.seals.proofs.look.Goals as goal
 
-pub returns-in-Plain : goal.returns-in-Plain
-returns-in-Plain c =
+pub returns : goal.returns
+returns c =
     let y = c.args in
-    ap (λ r. is_made (told_unsealed r)) (sym c.in-Plain.is)
-    ∙ looked ours (the_key y.key) Aps y.frame.now y.secured (replicate longest 0) (omega arith)
-    c.unseal.result _ c.unseal.ensures
-
-pub returns-in-Forged : goal.returns-in-Forged
-returns-in-Forged c =
-    let y = c.args in
-    ap (λ r. is_made (told_unsealed r)) (sym c.in-Forged.is)
+    c.is_some.ensures ∙ made-some c.unseal.result
     ∙ looked ours (the_key y.key) Aps y.frame.now y.secured (replicate longest 0) (omega arith)
     c.unseal.result _ c.unseal.ensures

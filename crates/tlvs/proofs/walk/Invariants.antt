@@ -1,11 +1,10 @@
--- The loop keeps: all that the walk finds is what was seen, or else what is found from i on; ill there is ill in all.
-use Prim.Native.Nat.{◌-◌, ◌≤◌}
-use lib.ListN.{length}
+-- The loop keeps: all that the walk finds is what was seen, or else what is found in what is left; ill there is ill in all.
+use Rattle.std.proofs.Common.{◌≤◌, length}
 use Rattle.tlvs.proofs.Walks.{Stands}
 use Rattle.tlvs.proofs.walk.Given as goal
 
-abbrev pub invariant-loop-i : goal.invariant-loop-i
-invariant-loop-i l = (l.i ≤ length l.s) × Stands l.w l.s l.seen l.i
+abbrev pub invariant-loop-rest : goal.invariant-loop-rest
+invariant-loop-rest l = (length l.rest ≤ length l.s) × Stands l.w l.s l.seen l.rest
 
-abbrev pub decreases-loop-i : goal.decreases-loop-i
-decreases-loop-i l = length l.s - l.i
+abbrev pub decreases-loop-rest : goal.decreases-loop-rest
+decreases-loop-rest l = length l.rest

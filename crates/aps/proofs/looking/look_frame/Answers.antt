@@ -1,5 +1,6 @@
--- Each arm of the reading is the definition's, behind the one test of the length.
+-- The length is judged first, then what the frame was read as decides, in code and definition alike.
 use mathlib.Core.Path.{sym, ap, ◌∙◌}
+use Rattle.std.proofs.Common.{Ok}
 use borrow.Author.Tests.{lt-ltb, le-ltb}
 use Rattle.aps.specs.Opening.{look_aps, looked_read}
 use Rattle.frames.specs.Reading.{told_read}
@@ -9,16 +10,23 @@ pub returns-then-frame-gt-LONGEST_APS : goal.returns-then-frame-gt-LONGEST_APS
 unfolding look_aps
 returns-then-frame-gt-LONGEST_APS c = simp (lt-ltb _ _ c.if-frame-gt-LONGEST_APS.true)
 
-pub returns-in-Refused : goal.returns-in-Refused
+pub returns-in_default : goal.returns-in_default
 unfolding look_aps looked_read
-returns-in-Refused c = simp (le-ltb _ _ c.if-frame-gt-LONGEST_APS.false, sym c.read_frame.ensures ∙ ap told_read c.in-Refused.is)
+returns-in_default c = simp (le-ltb _ _ c.if-frame-gt-LONGEST_APS.false, sym c.read_frame.ensures ∙ ap told_read c.in_default.is)
 
 pub returns-in-Plain : goal.returns-in-Plain
 unfolding look_aps looked_read
-returns-in-Plain c = simp (le-ltb _ _ c.if-frame-gt-LONGEST_APS.false, sym c.read_frame.ensures ∙ ap told_read c.in-Plain.is)
+returns-in-Plain c =
+    simp (
+      le-ltb _ _ c.if-frame-gt-LONGEST_APS.false,
+      sym c.read_frame.ensures ∙ ap told_read (c.in-Ok.is ∙ ap Ok c.in-Plain.is),
+    )
 
 pub returns-in-Secured : goal.returns-in-Secured
 unfolding look_aps looked_read
 returns-in-Secured c =
-    simp (le-ltb _ _ c.if-frame-gt-LONGEST_APS.false, sym c.read_frame.ensures ∙ ap told_read c.in-Secured.is)
+    simp (
+      le-ltb _ _ c.if-frame-gt-LONGEST_APS.false,
+      sym c.read_frame.ensures ∙ ap told_read (c.in-Ok.is ∙ ap Ok c.in-Secured.is),
+    )
     c.look_keyed.ensures

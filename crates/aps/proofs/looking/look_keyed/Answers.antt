@@ -6,15 +6,15 @@ use Rattle.board.proofs.Found.{link-place}
 use Rattle.aps.proofs.looking.look_keyed.Goals as goal
 
 pub offset_bounds-links-i : goal.offset_bounds-links-i
-offset_bounds-links-i c = let h = link-place _ _ _ (sym c.in-At.ensures) in omega arith
+offset_bounds-links-i c = let h = link-place _ _ _ (sym c.in-Some.ensures) in omega arith
 
 pub bounds-links-i : goal.bounds-links-i
-bounds-links-i c = link-place _ _ _ (sym c.in-At.ensures)
+bounds-links-i c = link-place _ _ _ (sym c.in-Some.ensures)
 
-pub returns-in-At : goal.returns-in-At
+pub returns-in-Some : goal.returns-in-Some
 unfolding looked_keyed
-returns-in-At c = simp (sym c.in-At.ensures, ← c.key_named.ensures) c.look.ensures
+returns-in-Some c = simp (sym c.in-Some.ensures, ← c.key_named.ensures) c.look.ensures
 
-pub returns-in-Absent : goal.returns-in-Absent
+pub returns-in-None : goal.returns-in-None
 unfolding looked_keyed
-returns-in-Absent c = simp (sym c.in-Absent.ensures)
+returns-in-None c = simp (sym c.in-None.ensures)

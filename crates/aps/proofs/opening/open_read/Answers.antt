@@ -3,51 +3,47 @@ use mathlib.Core.Path.{sym, ap, ◌∙◌}
 use native.Mathlib.Omega.{arith}
 use lib.ListN.{length}
 use borrow.Author.Tests.{lt-ltb, le-ltb}
+use Rattle.std.proofs.Common.{Ok, rules}
 use Rattle.octets.proofs.Pasted.{pasted-onto}
 use Rattle.answers.specs.Numbers.{clear, opened}
+use Rattle.answers.proofs.Exits.{handed-on}
 use Rattle.settings.specs.Settings.{ours}
 use Rattle.board.specs.Sending.{framed}
 use Rattle.aps.specs.Opening.{open_aps, opened_read}
 use Rattle.frames.specs.Reading.{told_read}
-use Rattle.aps.proofs.Admission.{stays, moves-none, read-sound}
+use Rattle.aps.proofs.Admission.{read-sound}
 use Rattle.aps.proofs.opening.open_read.Goals as goal
 
 pub returns-then-out-lt-LONGEST : goal.returns-then-out-lt-LONGEST
 unfolding open_aps
 returns-then-out-lt-LONGEST c =
-    record {
-      out_after = λ b el. simp (lt-ltb _ _ c.if-out-lt-LONGEST.true) (stays _ _ _ c.unmoved.ensures.0 c.unmoved.ensures.1 b);
-      by_index = moves-none c.unmoved.ensures.1;
-    }
+    record { out_after = λ b el. simp (lt-ltb _ _ c.if-out-lt-LONGEST.true); in_bounds = search rules }
 
 pub returns-then-f-gt-LONGEST_APS : goal.returns-then-f-gt-LONGEST_APS
 unfolding open_aps
 returns-then-f-gt-LONGEST_APS c =
     record {
-      out_after = λ b el. simp (le-ltb _ _ c.if-out-lt-LONGEST.false, lt-ltb _ _ c.if-f-gt-LONGEST_APS.true)
-          (stays _ _ _ c.unmoved-then-f-gt-LONGEST_APS.ensures.0 c.unmoved-then-f-gt-LONGEST_APS.ensures.1 b);
-      by_index = moves-none c.unmoved-then-f-gt-LONGEST_APS.ensures.1;
+      out_after = λ b el. simp (le-ltb _ _ c.if-out-lt-LONGEST.false, lt-ltb _ _ c.if-f-gt-LONGEST_APS.true);
+      in_bounds = search rules;
     }
 
-pub open_keyed-requires : goal.open_keyed-requires
-open_keyed-requires c = (
-  read-sound ours c.args.f.now c.args.given _
-      (sym c.read_frame.ensures ∙ ap told_read c.in-Secured.is) c.if-f-gt-LONGEST_APS.false,
-  c.if-out-lt-LONGEST.false,
-)
+pub invariant_of-open_keyed : goal.invariant_of-open_keyed
+invariant_of-open_keyed c =
+    let told = sym c.read_frame.ensures ∙ ap told_read (c.in_ok-read_frame.was ∙ ap Ok c.in-Secured.is) in
+    record { fits = read-sound ours c.args.f.now c.args.given _ told c.if-f-gt-LONGEST_APS.false }
 
-pub returns-in-Refused : goal.returns-in-Refused
+pub returns-in_err-read_frame : goal.returns-in_err-read_frame
 unfolding open_aps opened_read
-returns-in-Refused c =
-    record {
+returns-in_err-read_frame c =
+    rw (handed-on c.from_residual.result _ c.from_residual.ensures.1)
+    (record {
       out_after = λ b el. simp (
         le-ltb _ _ c.if-out-lt-LONGEST.false,
         le-ltb _ _ c.if-f-gt-LONGEST_APS.false,
-        sym c.read_frame.ensures ∙ ap told_read c.in-Refused.is,
-      )
-          (stays _ _ _ c.unmoved-in-Refused.ensures.0 c.unmoved-in-Refused.ensures.1 b);
-      by_index = moves-none c.unmoved-in-Refused.ensures.1;
-    }
+        sym c.in_err-read_frame.ensures,
+      );
+      in_bounds = search rules;
+    })
 
 pub returns-in-Plain : goal.returns-in-Plain
 unfolding open_aps opened_read
@@ -57,12 +53,11 @@ returns-in-Plain c =
       out_after = λ b el. simp (
         le-ltb _ _ c.if-out-lt-LONGEST.false,
         le-ltb _ _ c.if-f-gt-LONGEST_APS.false,
-        sym c.read_frame.ensures ∙ ap told_read c.in-Plain.is,
+        sym c.read_frame.ensures ∙ ap told_read (c.in_ok-read_frame.was ∙ ap Ok c.in-Plain.is),
       )
-          (stays _ _ _ c.unmoved-in-Plain.ensures.0 c.unmoved-in-Plain.ensures.1 b
-          ∙ ap (framed (opened (length y.f.now) 0 clear) b) (pasted-onto _ y.out.now y.f.now c.paste_at.ensures
+          (ap (framed (opened (length y.f.now) 0 clear) b) (pasted-onto _ y.out.now y.f.now c.paste_at.ensures
           (omega (arith, c.if-out-lt-LONGEST.false, c.if-f-gt-LONGEST_APS.false))));
-      by_index = moves-none c.unmoved-in-Plain.ensures.1;
+      in_bounds = search rules;
     }
 
 pub returns-in-Secured : goal.returns-in-Secured
@@ -72,8 +67,8 @@ returns-in-Secured c =
       out_after = λ b el. simp (
         le-ltb _ _ c.if-out-lt-LONGEST.false,
         le-ltb _ _ c.if-f-gt-LONGEST_APS.false,
-        sym c.read_frame.ensures ∙ ap told_read c.in-Secured.is,
+        sym c.read_frame.ensures ∙ ap told_read (c.in_ok-read_frame.was ∙ ap Ok c.in-Secured.is),
       )
           (c.open_keyed.ensures.out_after b el);
-      by_index = c.open_keyed.ensures.by_index;
+      in_bounds = c.open_keyed.ensures.in_bounds;
     }

@@ -1,6 +1,7 @@
 -- Output and frame are judged first, then what was read, then the identifier, each as in the definition.
 use mathlib.Core.Path.{sym, ap, ◌∙◌}
 use borrow.Author.Tests.{lt-ltb, le-ltb}
+use Rattle.answers.proofs.Exits.{handed-on}
 use Rattle.aps.specs.Sealing.{seal_aps, sealed_read}
 use Rattle.frames.specs.Reading.{told_plain}
 use Rattle.aps.proofs.Sends.{plain-bounds}
@@ -20,32 +21,37 @@ returns-then-not-is_named c =
     λ b el es. simp (
       le-ltb _ _ c.if-out-lt-LONGEST.false,
       le-ltb _ _ c.if-f-gt-LONGEST_APS_PLAIN.false,
-      sym c.read_plain.ensures ∙ ap told_plain c.in-Header.is,
+      sym c.read_plain.ensures ∙ ap told_plain c.in_ok-h.was,
       sym c.is_named.ensures ∙ c.if-not-is_named.true,
     )
 
+pub invariant_of-x : goal.invariant_of-x
+invariant_of-x c =
+    record { headed = plain-bounds c.args.f.now _ (sym c.read_plain.ensures ∙ ap told_plain c.in_ok-h.was) }
+
 pub seal_for-requires : goal.seal_for-requires
 seal_for-requires c = (
-  plain-bounds c.args.f.now _ (sym c.read_plain.ensures ∙ ap told_plain c.in-Header.is),
-  (c.if-f-gt-LONGEST_APS_PLAIN.false, (c.if-out-lt-LONGEST.false, sym c.is_named.ensures ∙ c.if-not-is_named.false)),
+  c.if-f-gt-LONGEST_APS_PLAIN.false,
+  (c.if-out-lt-LONGEST.false, sym c.is_named.ensures ∙ c.if-not-is_named.false),
 )
 
-pub returns-in-Refused : goal.returns-in-Refused
+pub returns-in_err-h : goal.returns-in_err-h
 unfolding seal_aps sealed_read
-returns-in-Refused c =
+returns-in_err-h c =
     λ b el es. simp (
+      handed-on c.from_residual.result _ c.from_residual.ensures.1,
       le-ltb _ _ c.if-out-lt-LONGEST.false,
       le-ltb _ _ c.if-f-gt-LONGEST_APS_PLAIN.false,
-      sym c.read_plain.ensures ∙ ap told_plain c.in-Refused.is,
+      sym c.in_err-h.ensures,
     )
 
-pub returns-else-not-is_named : goal.returns-else-not-is_named
+pub returns : goal.returns
 unfolding seal_aps sealed_read
-returns-else-not-is_named c =
+returns c =
     λ b el es. simp (
       le-ltb _ _ c.if-out-lt-LONGEST.false,
       le-ltb _ _ c.if-f-gt-LONGEST_APS_PLAIN.false,
-      sym c.read_plain.ensures ∙ ap told_plain c.in-Header.is,
+      sym c.read_plain.ensures ∙ ap told_plain c.in_ok-h.was,
       sym c.is_named.ensures ∙ c.if-not-is_named.false,
     )
     (c.seal_for.ensures b el es)

@@ -3,26 +3,20 @@ use mathlib.Core.Path.{sym, ap, ◌∙◌}
 use Rattle.settings.specs.Settings.{ours}
 use Rattle.octets.specs.Keys.{the_key}
 use Rattle.answers.specs.Numbers.{told}
-use Rattle.frames.specs.declared.Layer.TheVariants.{Aps}
-use Rattle.seals.proofs.Tells.{never-nothing}
-use Rattle.aps.proofs.Sends.{refused-link, sealed-link, sealable-aps, named-most}
+use Rattle.answers.proofs.Exits.{handed-on}
+use Rattle.aps.proofs.Sends.{refused-link, sent-link, sealable-aps, named-most}
 use Rattle.aps.proofs.sealing.seal_under.Goals as goal
 
-pub returns-in-Refused : goal.returns-in-Refused
-returns-in-Refused c =
+pub returns-in_err-may_send : goal.returns-in_err-may_send
+returns-in_err-may_send c =
     let y = c.args in
-    refused-link ours y.sending (the_key y.key) y.k y.f.now y.h y.out.now _
-    (sym c.may_send.ensures ∙ ap told c.in-Refused.is)
+    rw (handed-on c.from_residual.result _ c.from_residual.ensures.1)
+    (refused-link ours y.sending (the_key y.key) y.k y.x.frame.now y.x.header y.out.now _ (sym c.in_err-may_send.ensures))
 
-pub returns-in-Octets : goal.returns-in-Octets
-returns-in-Octets c =
-    let y = c.args in
-    sealed-link ours y.sending (the_key y.key) y.k y.f.now y.h y.out.now (named-most y.k c.requires.1.1.1) ((sealable-aps ours c.args.k c.args.f.now c.args.h c.requires.1.1.1 c.requires.0.0 c.requires.0.1 c.requires.1.0))
-    c.requires.1.1.0 (sym c.may_send.ensures ∙ ap told c.in-Done.is) _ _
-    c.in-Octets.n _ c.key_for-named.ensures c.in-Octets.is c.seal.ensures
-
-pub returns-in-Nothing : goal.returns-in-Nothing
-returns-in-Nothing c =
-    let y = c.args in
-    never-nothing ours (the_key c.key_for-named.result) Aps y.k y.sending.counter y.sending.own 0 y.f.now y.h
-    y.out.now (named-most y.k c.requires.1.1.1) ((sealable-aps ours c.args.k c.args.f.now c.args.h c.requires.1.1.1 c.requires.0.0 c.requires.0.1 c.requires.1.0)) c.requires.1.1.0 _ _ c.in-Nothing.is c.seal.ensures
+pub returns : goal.returns
+returns c =
+    λ b e. let y = c.args in
+    rw c.ok_or.ensures.value
+    (sent-link ours y.sending (the_key y.key) y.k y.x.frame.now y.x.header y.out.now (named-most y.k c.requires.1.1)
+    (sealable-aps ours y.k y.x.frame.now y.x.header c.requires.1.1 c.args.x.headed.0 c.args.x.headed.1 c.requires.0)
+    c.requires.1.0 (sym c.may_send.ensures ∙ ap told c.in_ok-may_send.was) _ _ _ c.key_for-named.ensures c.seal.ensures b e)

@@ -1,17 +1,15 @@
--- The two slots are asked in the order in which the definition's search goes through them.
-use mathlib.Core.Path.{sym, ◌∙◌}
-use Rattle.board.specs.Places.{first_at}
+-- `position` finds what the definition's search finds.
+use Rattle.std.proofs.Common.{rules, tests, ◌∙◌}
+use Rattle.std.proofs.lemmas.Iterator.{YieldsList-from_slice}
+use Rattle.std.proofs.lemmas.Iterator.Search.{position_from_yields_List}
+use Rattle.board.specs.State.{carries}
 use Rattle.board.specs.Requests.{slot_of}
+use Rattle.board.proofs.Found.{first-position}
 use Rattle.board.proofs.keys.slot_of.Goals as goal
 
-pub returns-then-carries_number : goal.returns-then-carries_number
-unfolding slot_of first_at
-returns-then-carries_number c = simp (sym c.carries_number.ensures ∙ c.if-carries_number.true)
-
-pub returns-then-carries_number-2 : goal.returns-then-carries_number-2
-unfolding slot_of first_at
-returns-then-carries_number-2 c = simp (sym c.carries_number.ensures ∙ c.if-carries_number.false, sym c.carries_number-2.ensures ∙ c.if-carries_number-2.true)
-
 pub returns : goal.returns
-unfolding slot_of first_at
-returns c = simp (sym c.carries_number.ensures ∙ c.if-carries_number.false, sym c.carries_number-2.ensures ∙ c.if-carries_number-2.false)
+unfolding slot_of
+returns c =
+    position_from_yields_List (λ s. carries s c.args.sequence) _ _ c.position.result c.position.ensures.ran
+    (YieldsList-from_slice _ c.iter.ensures.rest) (λ x b q k. search (rules, tests))
+    ∙ first-position (λ s. carries s c.args.sequence) _ c.args.slots 2 (search rules)

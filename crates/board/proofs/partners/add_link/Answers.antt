@@ -1,27 +1,14 @@
--- The address is judged first, then the place that `link_of` answers decides, in code and definition alike.
-use mathlib.Core.Path.{sym, ◌∙◌}
-use Rattle.board.specs.Requests.{add_link}
-use Rattle.board.proofs.Found.{link-place}
+-- That a place found is an entry, is what a search tells of its answer.
+use mathlib.Core.Path.{sym}
+use native.Mathlib.Omega.{arith}
+use Rattle.board.proofs.Found.{link-place, free-place}
 use Rattle.board.proofs.partners.add_link.Goals as goal
 
-pub returns-then-no_address : goal.returns-then-no_address
-unfolding add_link
-returns-then-no_address c = simp (sym c.no_address.ensures ∙ c.if-no_address.true) c.refuse.ensures
+pub bounds-board-i : goal.bounds-board-i
+bounds-board-i c = link-place _ _ _ (sym c.in-Some.ensures)
 
-pub add_again-requires : goal.add_again-requires
-add_again-requires c = link-place _ _ _ (sym c.in-At.ensures)
+pub with_link-requires-in-Some-free_link : goal.with_link-requires-in-Some-free_link
+with_link-requires-in-Some-free_link c = free-place _ _ (sym c.in-Some-free_link.ensures)
 
-pub returns-in-At : goal.returns-in-At
-unfolding add_link
-returns-in-At c =
-    simp (sym c.no_address.ensures ∙ c.if-no_address.false, sym c.in-At.ensures)
-    c.add_again.ensures
-
-pub returns-in-Absent : goal.returns-in-Absent
-unfolding add_link
-returns-in-Absent c =
-    simp (
-      sym c.no_address.ensures ∙ c.if-no_address.false,
-      sym c.in-Absent.ensures,
-    )
-    c.add_new.ensures
+pub offset_bounds-board-i : goal.offset_bounds-board-i
+offset_bounds-board-i c = let l = link-place _ _ _ (sym c.in-Some.ensures) in record { fits = omega arith }

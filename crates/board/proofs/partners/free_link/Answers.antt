@@ -1,18 +1,14 @@
-use mathlib.Core.Path.{refl, sym, ◌∙◌}
-use Rattle.std.proofs.Common.{rules}
+-- `position` finds what the definition's search finds.
+use Rattle.std.proofs.Common.{rules, not, ◌∙◌, tests}
+use Rattle.std.proofs.lemmas.Iterator.{YieldsList-from_slice}
+use Rattle.std.proofs.lemmas.Iterator.Search.{position_from_yields_List}
 use Rattle.board.specs.Requests.{free_link}
-use Rattle.board.proofs.Found.{first-hit, first-miss, first_done}
+use Rattle.board.proofs.Found.{first-position}
 use Rattle.board.proofs.partners.free_link.Goals as goal
 
-pub loop-i-init : goal.loop-i-init
-unfolding free_link
-loop-i-init c = (search rules, refl)
-
-pub returns-then-not-l : goal.returns-then-not-l
-returns-then-not-l c = sym (c.loop-i.invariant.1 ∙ first-hit _ c.loop-i.i 8 c.loop-i-test.true c.if-not-l.true)
-
-pub loop-i-preserved : goal.loop-i-preserved
-loop-i-preserved c = (search rules, c.loop-i.invariant.1 ∙ first-miss _ c.loop-i.i 8 c.loop-i-test.true c.if-not-l.false)
-
 pub returns : goal.returns
-returns c = sym (c.loop-i.invariant.1 ∙ first_done _ c.loop-i.i 8 c.loop-i-test.false)
+unfolding free_link
+returns c =
+    position_from_yields_List (λ l. not l.present) _ _ c.position.result c.position.ensures.ran
+    (YieldsList-from_slice _ c.iter.ensures.rest) (λ x b q k. search (rules, tests))
+    ∙ first-position (λ l. not l.present) _ c.args.links 8 (search rules)

@@ -1,28 +1,7 @@
--- Address 0 is judged first, then the place that `link_of` answers decides, in code and definition alike.
+-- That a place found is an entry, is what a search tells of its answer.
 use mathlib.Core.Path.{sym}
-use borrow.Author.Tests.{eq-eqb, ne_eqb}
-use Rattle.board.specs.Requests.{remove_link}
 use Rattle.board.proofs.Found.{link-place}
 use Rattle.board.proofs.partners.remove_link.Goals as goal
 
-pub returns-then-partner-eq0 : goal.returns-then-partner-eq0
-unfolding remove_link
-returns-then-partner-eq0 c = simp (eq-eqb _ _ c.if-partner-eq0.true) c.refuse.ensures
-
 pub with_link-requires : goal.with_link-requires
-with_link-requires c = link-place _ _ _ (sym c.in-At.ensures)
-
-pub returns-in-At : goal.returns-in-At
-unfolding remove_link
-returns-in-At c =
-    simp (
-      ne_eqb _ _ c.if-partner-eq0.false,
-      sym c.in-At.ensures,
-      ← c.with_link.ensures,
-      ← c.no_link.ensures,
-    )
-    c.did.ensures
-
-pub returns-in-Absent : goal.returns-in-Absent
-unfolding remove_link
-returns-in-Absent c = simp (ne_eqb _ _ c.if-partner-eq0.false, sym c.in-Absent.ensures) c.refuse-in-Absent.ensures
+with_link-requires c = link-place _ _ _ (sym c.in-Some.ensures)

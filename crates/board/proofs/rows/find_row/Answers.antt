@@ -1,42 +1,23 @@
-use mathlib.Core.Path.{◌≡◌, sym, ap, ◌∙◌}
-use Prim.Native.Nat.{◌+◌, ◌-◌, min}
-use native.Mathlib.Omega.{arith}
-use lib.Dec.{eqb}
-use lib.ListN.{length, get_or}
-use Rattle.std.proofs.Common.{rules}
-use borrow.Author.Tests.{eq-eqb, ne_eqb}
-use Rattle.board.specs.Places.{first_at}
+-- `position` finds what the definition's search finds, told from the place at which the rows looked at start.
+use Rattle.std.proofs.Common.{rules, tests, ◌≡◌, ◌∙◌, ◌+◌, ap, position, take, drop, eqb}
+use Rattle.std.specs.Option.{option_map}
+use Rattle.std.proofs.lemmas.Iterator.{YieldsList-from_slice, YieldsList-from_take}
+use Rattle.std.proofs.lemmas.Iterator.Adapters.{YieldsList-from_skip}
+use Rattle.std.proofs.lemmas.Iterator.Consumers.{YieldsList-at}
+use Rattle.std.proofs.lemmas.Iterator.Search.{position_from_yields_List}
 use Rattle.board.specs.Rows.{find_row}
-use Rattle.board.proofs.Found.{first-hit, first-miss, first_done}
+use Rattle.board.proofs.Found.{first-within}
 use Rattle.board.proofs.rows.find_row.Goals as goal
 
-pub returns-then-addrs-from : goal.returns-then-addrs-from
-unfolding find_row first_at
-returns-then-addrs-from c =
-    let x = c.args in
-    let e : min x.n (length x.addrs.now - x.from) ≡ 0 = omega arith in
-    sym (ap (first_at (λ r. eqb (get_or x.addrs.now r 0) x.address) x.from) e)
-
-pub loop-i-init : goal.loop-i-init
-unfolding find_row
-loop-i-init c =
-    let m = c.least.ensures in
-    let x = c.args in
-    let e : min x.n (length x.addrs.now - x.from) ≡ x.from + c.least.result - x.from = omega arith in
-    (omega arith, omega arith, ap (first_at (λ r. eqb (get_or x.addrs.now r 0) x.address) x.from) e)
-
-pub returns-then-addrs-i : goal.returns-then-addrs-i
-returns-then-addrs-i c =
-    sym (c.loop-i.invariant.2 ∙ first-hit _ c.loop-i.i _ c.loop-i-test.true
-    (eq-eqb _ _ c.if-addrs-i.true))
-
-pub loop-i-preserved : goal.loop-i-preserved
-loop-i-preserved c = (
-  search rules,
-  search rules,
-  c.loop-i.invariant.2 ∙ first-miss _ c.loop-i.i _ c.loop-i-test.true
-      (ne_eqb _ _ c.if-addrs-i.false),
-)
-
 pub returns : goal.returns
-returns c = sym (c.loop-i.invariant.2 ∙ first_done _ c.loop-i.i _ c.loop-i-test.false)
+unfolding find_row
+returns c =
+    let x = c.args in
+    let from = YieldsList-from_skip x.from (YieldsList-at c.skip.ensures.source (YieldsList-from_slice _ c.iter.ensures.rest))
+    c.skip.ensures.count in
+    let there = YieldsList-from_take x.n (YieldsList-at c.take-rows.ensures.source from) c.take-rows.ensures.count in
+    let found : c.position.result ≡ position (λ a. eqb a x.address) (take x.n (drop x.from x.addrs.now)) =
+    position_from_yields_List (λ a. eqb a x.address) _ _ c.position.result c.position.ensures.ran there
+    (λ a b q k. search (rules, tests)) in
+    let told : c.map.result ≡ option_map (λ r. x.from + r) c.position.result = search rules in
+    told ∙ ap (option_map (λ r. x.from + r)) found ∙ first-within (λ a. eqb a x.address) 0 x.addrs.now x.from x.n

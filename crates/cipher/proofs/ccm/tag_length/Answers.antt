@@ -1,20 +1,13 @@
--- The tests are the definition's, in its order: 0, or from 4 to 16 and even.
+-- The definition's tests pass at each number that is listed, and at no other.
+use native.Mathlib.Omega.{arith}
 use Rattle.octets.proofs.Choices.{tests}
 use Rattle.cipher.specs.Answers.{tag_length}
 use Rattle.cipher.proofs.ccm.tag_length.Goals as goal
 
-pub returns-then-m-eq0 : goal.returns-then-m-eq0
+pub returns-in-0 : goal.returns-in-0
 unfolding tag_length
-returns-then-m-eq0 c = search tests
+returns-in-0 c = grind (arith, tests)
 
-pub returns-then-m-lt4 : goal.returns-then-m-lt4
+pub returns-in_default : goal.returns-in_default
 unfolding tag_length
-returns-then-m-lt4 c = search tests
-
-pub returns-then-m-gt16 : goal.returns-then-m-gt16
-unfolding tag_length
-returns-then-m-gt16 c = search tests
-
-pub returns : goal.returns
-unfolding tag_length
-returns c = search tests
+returns-in_default c = grind (arith, tests)

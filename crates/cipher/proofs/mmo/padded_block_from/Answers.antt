@@ -1,15 +1,14 @@
-use mathlib.Core.Path.{refl}
+-- Each octet of the block is what one call of `padded_octet` answered.
+use Prim.Native.Nat.{◌+◌}
 use Rattle.std.proofs.Common.{rules}
-use Rattle.octets.proofs.Filled.{none, more, all}
+use Rattle.octets.specs.Lists.{at}
 use Rattle.cipher.specs.Blocks.{block_from}
+use Rattle.cipher.specs.Code.{padded_after}
+use Rattle.cipher.proofs.Made.{made}
 use Rattle.cipher.proofs.mmo.padded_block_from.Goals as goal
-
-pub loop-j-init : goal.loop-j-init
-loop-j-init c = none _ _ _ _ refl
-
-pub loop-j-preserved : goal.loop-j-preserved
-loop-j-preserved c = more _ _ _ _ _ _ c.loop-j.invariant (search rules) c.padded_octet.ensures
 
 pub returns : goal.returns
 unfolding block_from
-returns c = all _ _ _ _ _ c.loop-j.invariant (search rules)
+returns c =
+    let x = c.args in
+    made _ (λ j. at (padded_after x.b x.d.now) (x.i + j)) _ (λ j y q k. search rules) _ _ c.from_fn.ensures.items

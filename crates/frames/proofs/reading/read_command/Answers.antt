@@ -1,47 +1,41 @@
--- What the header told decides; where it was read, its length, the type and the security bit do, in this order.
+-- Each refusal is the definition's test of the same place; a command with its security bit set is refused as no command is.
 use mathlib.Core.Path.{sym, ap, ◌∙◌}
 use borrow.Author.Tests.{eq-eqb, ne_eqb, lt-ltb, le-ltb}
-use Rattle.frames.specs.Aps.{aps_type}
-use Rattle.frames.specs.Reading.{reading_command}
+use Rattle.answers.proofs.Exits.{handed-on}
 use Rattle.frames.specs.Code.{told_heading}
+use Rattle.frames.specs.Reading.{reading_command}
+use Rattle.frames.specs.Aps.{aps_type}
+use Rattle.frames.proofs.reading.read_command.Goals.{then-octet-ne1-via-then-octet-ne1, then-octet-ne1-via-else-octet-ne1+then-heading}
 use Rattle.frames.proofs.reading.read_command.Goals as goal
 
-pub returns-then-frame-h : goal.returns-then-frame-h
-unfolding reading_command aps_type
-returns-then-frame-h c = simp (sym c.read.ensures ∙ ap told_heading c.in-Octets.is, lt-ltb _ _ c.if-frame-h.true)
+pub returns-in_err-heading : goal.returns-in_err-heading
+unfolding reading_command
+returns-in_err-heading c = rw (handed-on c.from_residual.result _ c.from_residual.ensures.1) (simp (sym c.in_err-heading.ensures))
+
+pub returns-then-frame-heading : goal.returns-then-frame-heading
+unfolding reading_command
+returns-then-frame-heading c =
+    simp (sym c.read.ensures ∙ ap told_heading c.in_ok-heading.was, lt-ltb _ _ c.if-frame-heading.true)
 
 pub returns-then-octet-ne1 : goal.returns-then-octet-ne1
 unfolding reading_command aps_type
 returns-then-octet-ne1 c =
-    simp (
-      sym c.read.ensures ∙ ap told_heading c.in-Octets.is,
-      le-ltb _ _ c.if-frame-h.false,
-      ← c.octet.ensures,
-      ne_eqb _ _ c.if-octet-ne1.true,
-    )
+    let told = sym c.read.ensures ∙ ap told_heading c.in_ok-heading.was in
+    let long = le-ltb _ _ c.if-frame-heading.false in
+    elim c.then-octet-ne1.branch [
+      | then-octet-ne1-via-then-octet-ne1 w ↦
+          simp (told, long, ← c.octet.ensures, ne_eqb _ _ w.if-octet-ne1.true)
+      | then-octet-ne1-via-else-octet-ne1+then-heading w ↦
+          simp (told, long, ← c.octet.ensures, eq-eqb _ _ w.if-octet-ne1.false, w.if-heading.true)
+    ]
 
-pub returns-then-secured : goal.returns-then-secured
+pub returns : goal.returns
 unfolding reading_command aps_type
-returns-then-secured c =
+returns c =
     simp (
-      sym c.read.ensures ∙ ap told_heading c.in-Octets.is,
-      le-ltb _ _ c.if-frame-h.false,
-      ← c.octet.ensures,
-      eq-eqb _ _ c.if-octet-ne1.false,
-      c.if-secured.true,
-    )
-
-pub returns-in-Refused : goal.returns-in-Refused
-unfolding reading_command aps_type
-returns-in-Refused c = simp (sym c.read.ensures ∙ ap told_heading c.in-Refused.is)
-
-pub returns-else-secured : goal.returns-else-secured
-unfolding reading_command aps_type
-returns-else-secured c =
-    simp (
-      sym c.read.ensures ∙ ap told_heading c.in-Octets.is,
-      le-ltb _ _ c.if-frame-h.false,
+      sym c.read.ensures ∙ ap told_heading c.in_ok-heading.was,
+      le-ltb _ _ c.if-frame-heading.false,
       ← c.octet.ensures,
       eq-eqb _ _ c.if-octet-ne1.false,
-      c.if-secured.false,
+      c.if-heading.false,
     )

@@ -1,23 +1,22 @@
--- What the header told decides; where it was read, the security bit says how the rest is read.
+-- What the header tells decides, in code and definition alike.
 use mathlib.Core.Path.{sym, ap, ◌∙◌}
-use Rattle.frames.specs.Reading.{reading}
+use Rattle.answers.proofs.Exits.{handed-on}
 use Rattle.frames.specs.Code.{told_heading}
+use Rattle.frames.specs.Reading.{reading}
 use Rattle.frames.proofs.reading.read_frame.Goals as goal
 
-pub returns-then-secured : goal.returns-then-secured
+pub returns-in_err-heading : goal.returns-in_err-heading
 unfolding reading
-returns-then-secured c =
-    simp (
-      sym c.read_header.ensures ∙ ap told_heading c.in-Octets.is,
-      c.if-secured.true,
-      ← c.given_to.ensures,
-    )
+returns-in_err-heading c = rw (handed-on c.from_residual.result _ c.from_residual.ensures.1) (simp (sym c.in_err-heading.ensures))
+
+pub returns-then-heading : goal.returns-then-heading
+unfolding reading
+returns-then-heading c =
+    simp (sym c.read_header.ensures ∙ ap told_heading c.in_ok-heading.was, c.if-heading.true, ← c.given_to.ensures)
     c.secured_behind.ensures
 
-pub returns-in-Refused : goal.returns-in-Refused
+pub returns : goal.returns
 unfolding reading
-returns-in-Refused c = simp (sym c.read_header.ensures ∙ ap told_heading c.in-Refused.is)
-
-pub returns-else-secured : goal.returns-else-secured
-unfolding reading
-returns-else-secured c = simp (sym c.read_header.ensures ∙ ap told_heading c.in-Octets.is, c.if-secured.false) c.plain_behind.ensures
+returns c =
+    simp (sym c.read_header.ensures ∙ ap told_heading c.in_ok-heading.was, c.if-heading.false)
+    c.plain_behind.ensures

@@ -1,22 +1,33 @@
--- What the header told decides; where it was read, the security bit and then the length do.
+-- Each refusal is the definition's test of the same place.
 use mathlib.Core.Path.{sym, ap, ◌∙◌}
 use borrow.Author.Tests.{lt-ltb, le-ltb}
-use Rattle.frames.specs.Reading.{reading_plain}
+use Rattle.answers.proofs.Exits.{handed-on}
 use Rattle.frames.specs.Code.{told_heading}
+use Rattle.frames.specs.Reading.{reading_plain}
 use Rattle.frames.proofs.reading.read_plain.Goals as goal
 
-pub returns-then-secured : goal.returns-then-secured
+pub returns-in_err-heading : goal.returns-in_err-heading
 unfolding reading_plain
-returns-then-secured c = simp (sym c.read_header.ensures ∙ ap told_heading c.in-Octets.is, c.if-secured.true)
+returns-in_err-heading c = rw (handed-on c.from_residual.result _ c.from_residual.ensures.1) (simp (sym c.in_err-heading.ensures))
 
-pub returns-then-frame-h : goal.returns-then-frame-h
+pub returns-then-heading : goal.returns-then-heading
 unfolding reading_plain
-returns-then-frame-h c = simp (sym c.read_header.ensures ∙ ap told_heading c.in-Octets.is, c.if-secured.false, lt-ltb _ _ c.if-frame-h.true)
+returns-then-heading c = simp (sym c.read_header.ensures ∙ ap told_heading c.in_ok-heading.was, c.if-heading.true)
 
-pub returns-in-Refused : goal.returns-in-Refused
+pub returns-then-frame-heading : goal.returns-then-frame-heading
 unfolding reading_plain
-returns-in-Refused c = simp (sym c.read_header.ensures ∙ ap told_heading c.in-Refused.is)
+returns-then-frame-heading c =
+    simp (
+      sym c.read_header.ensures ∙ ap told_heading c.in_ok-heading.was,
+      c.if-heading.false,
+      lt-ltb _ _ c.if-frame-heading.true,
+    )
 
-pub returns-else-frame-h : goal.returns-else-frame-h
+pub returns : goal.returns
 unfolding reading_plain
-returns-else-frame-h c = simp (sym c.read_header.ensures ∙ ap told_heading c.in-Octets.is, c.if-secured.false, le-ltb _ _ c.if-frame-h.false)
+returns c =
+    simp (
+      sym c.read_header.ensures ∙ ap told_heading c.in_ok-heading.was,
+      c.if-heading.false,
+      le-ltb _ _ c.if-frame-heading.false,
+    )

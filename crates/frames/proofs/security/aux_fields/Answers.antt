@@ -8,4 +8,5 @@ returns c =
       c.paste_at.ensures,
       c.spelled8-address.ensures,
       c.spelled4-count.ensures,
+      c.wire_control.ensures,
     )

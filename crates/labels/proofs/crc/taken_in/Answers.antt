@@ -1,21 +1,13 @@
-use mathlib.Core.Path.{refl, sym, ap, ◌∙◌}
-use Prim.Native.Nat.{◌-◌, ◌+◌}
+use mathlib.Core.Path.{refl, ap, ◌∙◌}
+use lib.Bits.{bit_xor}
 use Rattle.std.proofs.Common.{rules}
-use Rattle.labels.specs.Crc.{shifted_by, taken_in}
-use Rattle.labels.proofs.Crcs.{bit-more, bit-end}
+use Rattle.std.proofs.lemmas.Iterator.{YieldsList-from_range}
+use Rattle.std.proofs.lemmas.Iterator.Consumers.{fold_from_yields_List}
+use Rattle.labels.specs.Crc.{shifted, shifted_by, taken_in}
 use Rattle.labels.proofs.crc.taken_in.Goals as goal
 
-pub loop-init : goal.loop-init
-loop-init c = (search rules, refl)
-
-pub loop-preserved : goal.loop-preserved
-loop-preserved c =
-    let l = c.loop in
-    let told = ap (shifted_by (8 - (l.counter + 1))) (sym c.shifted-r.ensures) in
-    (search rules, l.invariant.1 ∙ bit-more l.counter l.r (search rules) ∙ told)
-
 pub returns : goal.returns
-unfolding taken_in
+unfolding taken_in shifted_by
 returns c =
-    let l = c.loop in
-    sym (l.invariant.1 ∙ bit-end l.counter l.r (search rules))
+    fold_from_yields_List _ (λ r _. shifted r) _ _ c.fold.ensures.ran (YieldsList-from_range 0 8 8 refl refl) (λ a x b q k. search rules)
+    ∙ ap (shifted_by 8) (ap (bit_xor c.args.c) c.from.ensures)

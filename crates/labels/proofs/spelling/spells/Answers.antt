@@ -1,25 +1,25 @@
-use mathlib.Core.Path.{sym, ap, ◌∙◌}
-use Prim.Native.Nat.{◌+◌}
-use lib.ListN.{drop}
-use Rattle.std.proofs.Common.{rules}
-use Rattle.octets.proofs.Tabs.{drop-step}
+use mathlib.Core.List.{[]}
+use mathlib.Core.Path.{◌≡◌, refl, sym, ap, ◌∙◌}
+use denote.Enum.Bare.{sameb}
+use lib.ListN.{drop_of_length-le}
+use Rattle.labels.specs.contracts.spelling.Next.{the_type}
+use Rattle.labels.specs.declared.spelling.Next.{Next}
+use Rattle.labels.specs.declared.spelling.Next.TheVariants.{Octet, Digit, Behind}
 use Rattle.labels.specs.Code.{spells_on}
-use Rattle.labels.proofs.Texts.{spells-on, spells-end}
+use Rattle.labels.proofs.Texts.{spells-on}
 use Rattle.labels.proofs.spelling.spells.Goals as goal
 
-pub loop-i-init : goal.loop-i-init
-loop-i-init c = (search rules, search rules, spells-on c.args.s.now)
+-- a text ends behind an octet
+ends : (n : Next) → sameb the_type n Behind ≡ spells_on [] n
+unfolding spells_on
+ends Octet = refl
+ends Digit = refl
+ends Behind = refl
 
-pub loop-i-preserved : goal.loop-i-preserved
-loop-i-preserved c =
-    let s = c.args.s.now in
-    let l = c.loop-i in (
-      search rules,
-      search rules,
-      l.invariant.2 ∙ ap (λ x. spells_on x l.next) (drop-step s l.i (search rules)) ∙ c.step-next.ensures (drop (l.i + 1) s),
-    )
+pub loop-c-init : goal.loop-c-init
+loop-c-init c = spells-on c.args.s.now
 
 pub returns : goal.returns
 returns c =
-    let l = c.loop-i in
-    c.may_end.ensures ∙ sym (l.invariant.2 ∙ spells-end c.args.s.now l.i l.next (search rules))
+    let l = c.loop-c in
+    c.eq.ensures ∙ ends l.next ∙ sym (l.invariant ∙ ap (λ s. spells_on s l.next) (drop_of_length-le c.args.s.now c.loop-c-test.false))

@@ -1,10 +1,9 @@
--- The loop keeps: the whole text spells just where what is left of it spells on. At the end nothing is left.
+-- The loop keeps: the whole text spells just where what is left of it spells on.
 use mathlib.Core.Path.{◌≡◌}
-use Prim.Native.Nat.{◌≤◌}
-use lib.ListN.{length, drop}
+use lib.ListN.{drop}
 use Rattle.labels.specs.Reading.{spells}
 use Rattle.labels.specs.Code.{spells_on}
 use Rattle.labels.proofs.spelling.spells.Given as goal
 
-abbrev pub invariant-loop-i : goal.invariant-loop-i
-invariant-loop-i l = (l.i ≤ length l.s) × (l.i-end ≡ length l.s) × (spells l.s ≡ spells_on (drop l.i l.s) l.next)
+abbrev pub invariant-loop-c : goal.invariant-loop-c
+invariant-loop-c l = spells l.s ≡ spells_on (drop l.c-index l.s) l.next

@@ -6,15 +6,15 @@ use Rattle.board.proofs.Found.{slot-place}
 use Rattle.network.proofs.looking.look_keyed.Goals as goal
 
 pub offset_bounds-slots-i : goal.offset_bounds-slots-i
-offset_bounds-slots-i c = let h = slot-place _ _ _ (sym c.in-At.ensures) in omega arith
+offset_bounds-slots-i c = let h = slot-place _ _ _ (sym c.in-Some.ensures) in omega arith
 
 pub bounds-slots-i : goal.bounds-slots-i
-bounds-slots-i c = slot-place _ _ _ (sym c.in-At.ensures)
+bounds-slots-i c = slot-place _ _ _ (sym c.in-Some.ensures)
 
-pub returns-in-At : goal.returns-in-At
+pub returns-in-Some : goal.returns-in-Some
 unfolding looked_keyed
-returns-in-At c = simp (sym c.in-At.ensures) c.look.ensures
+returns-in-Some c = simp (sym c.in-Some.ensures) c.look.ensures
 
-pub returns-in-Absent : goal.returns-in-Absent
+pub returns-in-None : goal.returns-in-None
 unfolding looked_keyed
-returns-in-Absent c = simp (sym c.in-Absent.ensures)
+returns-in-None c = simp (sym c.in-None.ensures)

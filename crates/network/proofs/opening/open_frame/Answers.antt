@@ -5,6 +5,8 @@ use Prim.Native.Nat.{ℕ}
 use native.Mathlib.Omega.{arith}
 use lib.ListN.{length}
 use borrow.Author.Tests.{lt-ltb, le-ltb, lt-leb, le-leb}
+use Rattle.std.proofs.Common.{Ok}
+use Rattle.answers.proofs.Exits.{handed-on}
 use Rattle.octets.proofs.Pasted.{pasted-onto}
 use Rattle.network.specs.Opening.{lent, leaving, open_network, opened_read}
 use Rattle.settings.specs.Settings.{ours}
@@ -26,22 +28,25 @@ pub returns-then-frame-gt-LONGEST : goal.returns-then-frame-gt-LONGEST
 unfolding open_network
 returns-then-frame-gt-LONGEST c = simp ((le-leb _ _ c.if-out-lt-LONGEST.false), (sym c.lists_fit.ensures ∙ c.if-not-lists_fit.false), lt-ltb _ _ c.if-frame-gt-LONGEST.true)
 
+pub invariant_of-x : goal.invariant_of-x
+invariant_of-x c =
+    let told = sym c.read_frame.ensures ∙ ap told_read (c.in_ok-read_frame.was ∙ ap Ok c.in-Secured.is) in
+    record { fits = read-sound ours c.args.frame.now _ told c.if-frame-gt-LONGEST.false }
+
 pub open_keyed-requires : goal.open_keyed-requires
 open_keyed-requires c =
-    let long = lists-long _ ((sym c.lists_fit.ensures ∙ c.if-not-lists_fit.false)) in (
-      read-sound ours c.args.frame.now _ (sym c.read_frame.ensures ∙ ap told_read c.in-Secured.is)
-          c.if-frame-gt-LONGEST.false,
-      (c.if-out-lt-LONGEST.false, long.0 ∙ sym long.1),
-    )
+    let long = lists-long _ ((sym c.lists_fit.ensures ∙ c.if-not-lists_fit.false)) in
+    record { room = c.if-out-lt-LONGEST.false; same_length = long.0 ∙ sym long.1 }
 
-pub returns-in-Refused : goal.returns-in-Refused
+pub returns-in_err-read_frame : goal.returns-in_err-read_frame
 unfolding open_network opened_read
-returns-in-Refused c =
+returns-in_err-read_frame c =
     simp (
+      handed-on c.from_residual.result _ c.from_residual.ensures.1,
       (le-leb _ _ c.if-out-lt-LONGEST.false),
       (sym c.lists_fit.ensures ∙ c.if-not-lists_fit.false),
       (le-ltb _ _ c.if-frame-gt-LONGEST.false),
-      sym c.read_frame.ensures ∙ ap told_read c.in-Refused.is,
+      sym c.in_err-read_frame.ensures,
     )
 
 pub returns-in-Plain : goal.returns-in-Plain
@@ -52,7 +57,7 @@ returns-in-Plain c =
       (le-leb _ _ c.if-out-lt-LONGEST.false),
       (sym c.lists_fit.ensures ∙ c.if-not-lists_fit.false),
       (le-ltb _ _ c.if-frame-gt-LONGEST.false),
-      sym c.read_frame.ensures ∙ ap told_read c.in-Plain.is,
+      sym c.read_frame.ensures ∙ ap told_read (c.in_ok-read_frame.was ∙ ap Ok c.in-Plain.is),
     )
     (ap (λ (x : List ℕ). leaving (opened (length y.frame.now) 0 clear) (lent y.addrs.now y.floors.now x))
     (pasted-onto _ y.out.now y.frame.now c.paste_at.ensures (omega (arith, c.if-out-lt-LONGEST.false, c.if-frame-gt-LONGEST.false))))
@@ -64,6 +69,6 @@ returns-in-Secured c =
       (le-leb _ _ c.if-out-lt-LONGEST.false),
       (sym c.lists_fit.ensures ∙ c.if-not-lists_fit.false),
       (le-ltb _ _ c.if-frame-gt-LONGEST.false),
-      sym c.read_frame.ensures ∙ ap told_read c.in-Secured.is,
+      sym c.read_frame.ensures ∙ ap told_read (c.in_ok-read_frame.was ∙ ap Ok c.in-Secured.is),
     )
     c.open_keyed.ensures

@@ -3,10 +3,10 @@ use borrow.Author.Tests.{lt-ltb, le-ltb}
 use Rattle.network.specs.Code.{opened_heard}
 use Rattle.network.proofs.opening.open_heard.Goals as goal
 
-pub returns-then-s-floors : goal.returns-then-s-floors
+pub returns-then-x-floors : goal.returns-then-x-floors
 unfolding opened_heard
-returns-then-s-floors c = simp (lt-ltb _ _ c.if-s-floors.true)
+returns-then-x-floors c = simp (lt-ltb _ _ c.if-x-floors.true)
 
 pub returns : goal.returns
 unfolding opened_heard
-returns c = simp (le-ltb _ _ c.if-s-floors.false) c.admit.ensures
+returns c = simp (le-ltb _ _ c.if-x-floors.false) c.admit.ensures

@@ -6,15 +6,15 @@ use Rattle.board.proofs.Halves.{slot-start}
 use Rattle.network.proofs.opening.open_new.Goals as goal
 
 pub overflow_mul-i : goal.overflow_mul-i
-overflow_mul-i c = record { fits = omega (arith, slot-start c.args.rows c.args.i c.requires.i_bound.0) }
+overflow_mul-i c = record { fits = omega (arith, slot-start c.args.rows c.args.i c.requires.slot) }
 
 pub admit-requires : goal.admit-requires
 admit-requires c =
-    let there = row-place _ _ _ _ _ (sym c.in-At.ensures) in
-    record { s_value = c.requires.s_value; r_in_bounds = (there, omega (arith, there, c.requires.i_bound.1)) }
+    let there = row-place _ _ _ _ _ (sym c.in-Some.ensures) in
+    record { room = c.requires.room; below_top = c.requires.below_top; r_in_bounds = (there, omega (arith, there, c.requires.same_length)) }
 
-pub returns-in-At : goal.returns-in-At
-returns-in-At c = simp (sym c.in-At.ensures) c.admit.ensures
+pub returns-in-Some : goal.returns-in-Some
+returns-in-Some c = simp (sym c.in-Some.ensures) c.admit.ensures
 
-pub returns-in-Absent : goal.returns-in-Absent
-returns-in-Absent c = simp (sym c.in-Absent.ensures) (c.turn_away.ensures _)
+pub returns-in-None : goal.returns-in-None
+returns-in-None c = simp (sym c.in-None.ensures) (c.turn_away.ensures _)

@@ -7,7 +7,7 @@ use Rattle.network.proofs.Admission.{away}
 use Rattle.network.proofs.opening.turn_away.Goals as goal
 
 pub returns-then-look : goal.returns-then-look
-returns-then-look c = away ours (the_key c.args.key) c.args.f.now c.args.s c.requires true (sym c.look.ensures ∙ c.if-look.true)
+returns-then-look c = away ours (the_key c.args.key) c.args.x.frame.now c.args.x.secured c.args.x.fits true (sym c.look.ensures ∙ c.if-look.true)
 
 pub returns : goal.returns
-returns c = away ours (the_key c.args.key) c.args.f.now c.args.s c.requires false (sym c.look.ensures ∙ c.if-look.false)
+returns c = away ours (the_key c.args.key) c.args.x.frame.now c.args.x.secured c.args.x.fits false (sym c.look.ensures ∙ c.if-look.false)

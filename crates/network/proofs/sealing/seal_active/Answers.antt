@@ -30,4 +30,4 @@ returns c =
       ap (λ (x : List Slot). (slot_at x y.i).present) es ∙ not-false (slot_at y.slots y.i).present c.if-not-s.false,
     )
     (c.seal_under.ensures b en ∙ ap
-    (λ (x : List Slot). sealed_under ours b y.f.now y.out.now y.h (slot_at x y.i)) (sym es))
+    (λ (x : List Slot). sealed_under ours b y.x.frame.now y.out.now y.x.header (slot_at x y.i)) (sym es))

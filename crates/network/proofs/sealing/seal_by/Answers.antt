@@ -2,9 +2,9 @@
 use Rattle.network.specs.Sealing.{sealed_by}
 use Rattle.network.proofs.sealing.seal_by.Goals as goal
 
-pub returns-in-Nobody : goal.returns-in-Nobody
+pub returns-in-None : goal.returns-in-None
 unfolding sealed_by
-returns-in-Nobody c = λ b es en. simp c.in-Nobody.is
+returns-in-None c = λ b es en. simp c.in-None.is
 
-pub returns-in-Slot : goal.returns-in-Slot
-returns-in-Slot c = λ b es en. simp c.in-Slot.is (c.seal_active.ensures b es en)
+pub returns-in-Some : goal.returns-in-Some
+returns-in-Some c = λ b es en. simp c.in-Some.is (c.seal_active.ensures b es en)

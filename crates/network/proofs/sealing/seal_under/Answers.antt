@@ -1,31 +1,22 @@
 -- The counter is judged before the key is used; that the frame can be sealed was judged before, so `seal` makes it.
 use mathlib.Core.Path.{sym, ap, ◌∙◌}
-use native.Mathlib.Omega.{arith}
 use Rattle.settings.specs.Settings.{ours}
-use Rattle.octets.specs.Keys.{the_key}
 use Rattle.answers.specs.Numbers.{told}
-use Rattle.frames.specs.declared.Layer.TheVariants.{Network}
+use Rattle.answers.proofs.Exits.{handed-on}
 use Rattle.seals.proofs.Fairly.{ours-fair}
-use Rattle.seals.proofs.Tells.{never-nothing}
-use Rattle.network.specs.Sealing.{identifier}
-use Rattle.network.proofs.Sends.{sealable-net, refused-slot, sealed-slot}
+use Rattle.network.proofs.Sends.{sealable-net, refused-slot, sent-slot}
 use Rattle.network.proofs.sealing.seal_under.Goals as goal
 
-pub returns-in-Refused : goal.returns-in-Refused
-returns-in-Refused c =
+pub returns-in_err-may_send : goal.returns-in_err-may_send
+returns-in_err-may_send c =
     let y = c.args in
-    refused-slot ours y.sending y.s y.f.now y.h y.out.now _
-    (sym c.may_send.ensures ∙ ap told c.in-Refused.is)
+    rw (handed-on c.from_residual.result _ c.from_residual.ensures.1)
+    (refused-slot ours y.sending y.s y.x.frame.now y.x.header y.out.now _ (sym c.in_err-may_send.ensures))
 
-pub returns-in-Octets : goal.returns-in-Octets
-returns-in-Octets c =
-    let y = c.args in
-    sealed-slot ours y.sending y.s y.f.now y.h y.out.now ((sealable-net ours ours-fair c.args.f.now c.args.h c.requires.0.0 c.requires.0.1 c.requires.1.0)) c.requires.1.1
-    (sym c.may_send.ensures ∙ ap told c.in-Done.is) _ _ _ c.in-Octets.is
-    c.seal.ensures
-
-pub returns-in-Nothing : goal.returns-in-Nothing
-returns-in-Nothing c =
-    let y = c.args in
-    never-nothing ours (the_key y.s.key) Network identifier y.sending.counter y.sending.own y.s.seq y.f.now y.h
-    y.out.now (omega arith) ((sealable-net ours ours-fair c.args.f.now c.args.h c.requires.0.0 c.requires.0.1 c.requires.1.0)) c.requires.1.1 _ _ c.in-Nothing.is c.seal.ensures
+pub returns : goal.returns
+returns c =
+    λ b e. let y = c.args in
+    rw c.ok_or.ensures.value
+    (sent-slot ours y.sending y.s y.x.frame.now y.x.header y.out.now ours-fair
+    (sealable-net ours ours-fair y.x.frame.now y.x.header c.args.x.headed.0 c.args.x.headed.1 c.requires.0) c.requires.1
+    (sym c.may_send.ensures ∙ ap told c.in_ok-may_send.was) _ _ c.seal.ensures b e)

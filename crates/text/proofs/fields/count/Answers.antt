@@ -1,21 +1,12 @@
-use native.Mathlib.Omega.{arith}
+use Rattle.std.proofs.Common.{◌≡◌, ◌+◌, ◌==◌, count_by, sym, ◌∙◌, ap, rules}
+use Rattle.std.proofs.iter.runs.Made.{chains}
 use Rattle.text.specs.Fields.{fields}
-use Rattle.text.proofs.Parted.{tabs-tab, tabs-more, tabs-end}
+use Rattle.text.proofs.Parted.{tabs-count}
 use Rattle.text.proofs.fields.count.Goals as goal
-use Rattle.text.proofs.fields.count.Goals.{then-line-i-eq9, else-line-i-eq9}
-
-pub loop-i-preserved : goal.loop-i-preserved
-loop-i-preserved c =
-    let x = c.args in
-    let l = c.loop-i in
-    elim c.if-line-i-eq9.branch [
-      | then-line-i-eq9 w ↦ omega (arith, tabs-tab x.line.now l.i (omega arith) w.if-line-i-eq9.true)
-      | else-line-i-eq9 w ↦ omega (arith, tabs-more x.line.now l.i (omega arith) w.if-line-i-eq9.false)
-    ]
 
 pub returns : goal.returns
 unfolding fields
 returns c =
-    let x = c.args in
-    let l = c.loop-i in
-    omega (arith, tabs-end x.line.now l.i (omega arith))
+    let line = c.args.line.now in
+    let e : c.count.result ≡ count_by (λ x. x == 9) line = search (rules, chains) in
+    ap (λ n. n + 1) (e ∙ sym (tabs-count line))

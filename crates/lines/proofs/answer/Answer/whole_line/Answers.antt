@@ -1,4 +1,4 @@
--- Number, tab, answer and line feed are put one behind the other; 20 octets, 1, an answer's room and 1 are what there is room for.
+-- Number, tab, answer and line feed are put one behind the other, and there is room for 20 octets, 1, an answer and 1.
 use Rattle.std.proofs.Common.{◌≤◌, length, arith, length-take}
 use Rattle.lines.specs.Answer.{room, said}
 use Rattle.lines.proofs.Written.{whole-fits}

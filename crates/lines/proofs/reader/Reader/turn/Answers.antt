@@ -1,4 +1,4 @@
--- The line that is begun is read on by `next_line`, in the chunk that was cut to its octets.
+-- The line that is begun is read on by `read_on`, in the chunk that was cut to its octets.
 use Rattle.std.proofs.Common.{length, ap}
 use Rattle.octets.specs.Parts.{Part}
 use Rattle.lines.specs.Passing.{standing}

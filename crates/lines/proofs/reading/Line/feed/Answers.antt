@@ -1,22 +1,27 @@
--- Room for one more octet is tested as `fed` tests it, and only the place behind the line is written.
-use Rattle.std.proofs.Common.{◌+◌, refl, arith, drop-set-lt}
-use Rattle.lines.proofs.Fed.{fed-room, fed-long}
+-- As many octets as there is room for are laid behind the line's, and the line is too long where these are not all of them.
+use Rattle.std.proofs.Common.{◌≡◌, ◌+◌, ◌-◌, ltb, length, arith}
+use Rattle.lines.proofs.Fed.{or, fed_in}
 use Rattle.lines.proofs.reading.Line.feed.Goals as goal
 
-pub returns-then-at-buf : goal.returns-then-at-buf
-returns-then-at-buf c =
+pub returns-then-self : goal.returns-then-self
+returns-then-self c =
     let x = c.args in
-    let b = x.buf.now in
-    let i = x.self.at in
-    record {
-      buf_after = fed-room b i x.self.long x.c c.if-at-buf.true;
-      leaves = (omega arith, drop-set-lt (i + 1) b i x.c (omega arith));
-    }
+    let a = c.min-at.result in
+    let n = c.min-n.result in
+    let longer : or x.self.long (ltb n (length x.part.now)) ≡ x.self.long = rw c.if-self.true in
+    let (told, left) =
+    fed_in x.buf.now x.part.now c.copy_from_slice.new.self a (a + n - a) n x.self.at x.self.long x.self.long
+    c.min-at.ensures c.min-n.ensures (omega arith) c.copy_from_slice.ensures.after longer in
+    record { buf_after = told; leaves = left }
 
-pub returns : goal.returns
-returns c =
+pub returns-else-self : goal.returns-else-self
+returns-else-self c =
     let x = c.args in
-    record {
-      buf_after = fed-long x.buf.now x.self.at x.self.long x.c c.if-at-buf.false;
-      leaves = (omega arith, refl);
-    }
+    let a = c.min-at.result in
+    let n = c.min-n.result in
+    let m = ltb n (length x.part.now) in
+    let longer : or x.self.long m ≡ m = rw c.if-self.false in
+    let (told, left) =
+    fed_in x.buf.now x.part.now c.copy_from_slice.new.self a (a + n - a) n x.self.at x.self.long m
+    c.min-at.ensures c.min-n.ensures (omega arith) c.copy_from_slice.ensures.after longer in
+    record { buf_after = told; leaves = left }

@@ -1,5 +1,0 @@
--- What is added to t is S0, the key stream's block 0.
-use Rattle.cipher.proofs.ccm.mask.Goals as goal
-
-pub returns : goal.returns
-returns c = cc

@@ -1,0 +1,14 @@
+-- What `text` laid behind the octets comes behind them, and what it has no room for is left out.
+use Rattle.std.proofs.Common.{arith}
+use Rattle.lines.proofs.Written.{laid}
+use Rattle.lines.proofs.buffer.Octets.push.Goals as goal
+
+pub invariant_of-self : goal.invariant_of-self
+invariant_of-self g c =
+    let x = c.args.self.now in
+    record { fits = (laid x.octets x.n c.args.s.now c.put-self.ensures (omega arith) x.fits).0 }
+
+pub returns : goal.returns
+returns g c =
+    let x = c.args.self.now in
+    (laid x.octets x.n c.args.s.now c.put-self.ensures (omega arith) x.fits).1

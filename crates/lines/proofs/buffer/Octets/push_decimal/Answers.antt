@@ -1,0 +1,15 @@
+-- What `text` laid behind the octets comes behind them, and what it has no room for is left out.
+use Rattle.std.proofs.Common.{arith}
+use Rattle.text.specs.Decimal.{decimal}
+use Rattle.lines.proofs.Written.{laid}
+use Rattle.lines.proofs.buffer.Octets.push_decimal.Goals as goal
+
+pub invariant_of-self : goal.invariant_of-self
+invariant_of-self g c =
+    let x = c.args.self.now in
+    record { fits = (laid x.octets x.n (decimal c.args.x) c.put_decimal-self.ensures (omega arith) x.fits).0 }
+
+pub returns : goal.returns
+returns g c =
+    let x = c.args.self.now in
+    (laid x.octets x.n (decimal c.args.x) c.put_decimal-self.ensures (omega arith) x.fits).1
