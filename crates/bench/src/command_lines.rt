@@ -1,26 +1,24 @@
 // APS commands, read and written.
 use crate::desk::{Bench, done, laid};
-use crate::read::{frame_at, guard_of, numbers};
-use crate::results::written;
-use answers::Guard;
-use commands::{Command, Reading, Requested, Transported};
+use crate::read::{frame_at, numbers, protection_of};
+use commands::{Command, Requested, Transported};
 use lines::{Answer, Octets, lent_of, refused};
 
 pub(crate) fn read(line: &[u8]) -> Option<Answer> {
     let [_, protection, ..] = numbers(line, b".TF")?;
     let frame = frame_at(line, 2)?;
-    let guard = guard_of(protection);
-    Some(match commands::read_command(frame.as_slice(), guard) {
-        Reading::Command(command) => told(command, frame.as_slice(), guard),
-        Reading::Refused(why) => refused(why),
+    let protection = protection_of(protection);
+    Some(match commands::read_command(frame.as_slice(), protection) {
+        Ok(command) => told(command, frame.as_slice(), protection),
+        Err(why) => refused(why),
     })
 }
 
 // A command by its word, and behind it the fields that a `write` line has there.
-fn told(command: Command, f: &[u8], guard: Guard) -> Answer {
-    let tlvs = commands::tlvs_of(f, guard);
+fn told(command: Command, f: &[u8], protection: Option<u8>) -> Answer {
+    let tlvs = commands::tlvs_of(f, protection);
     match command {
-        Command::TransportKey(key) => transported(key, commands::key_of(f, guard), tlvs),
+        Command::TransportKey(key) => transported(key, commands::key_of(f, protection), tlvs),
         Command::UpdateDevice(device, short, status) => word(b"update")
             .address(device)
             .decimal(short as u64)
@@ -32,11 +30,11 @@ fn told(command: Command, f: &[u8], guard: Guard) -> Answer {
         Command::SwitchKey(sequence) => word(b"switchkey").decimal(sequence as u64),
         Command::Tunnel(destination) => word(b"tunnel")
             .address(destination)
-            .hex(commands::inner_of(f, guard)),
+            .hex(commands::inner_of(f, protection)),
         Command::VerifyKey(kind, source) => word(b"verify")
             .decimal(kind as u64)
             .address(source)
-            .hex(commands::hash_of(f, guard)),
+            .hex(commands::hash_of(f, protection)),
         Command::ConfirmKey(status, kind, destination) => word(b"confirm")
             .decimal(status as u64)
             .decimal(kind as u64)
@@ -79,7 +77,7 @@ pub(crate) fn tlv(line: &[u8]) -> Option<Answer> {
     let [_, protection, tag, ..] = numbers(line, b".TBF")?;
     let frame = frame_at(line, 3)?;
     let tag = u8::try_from(tag).ok()?;
-    let found = commands::value_of(frame.as_slice(), guard_of(protection), tag);
+    let found = commands::value_of(frame.as_slice(), protection_of(protection), tag);
     Some(done().hex(found))
 }
 
@@ -104,8 +102,7 @@ impl Bench {
             rest.as_slice(),
             &mut out[..room],
         );
-        self.board = Some(wrote.board);
-        Some(laid(written(wrote.answer), &out))
+        Some(laid(self.left(wrote), &out))
     }
 }
 

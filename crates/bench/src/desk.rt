@@ -1,5 +1,5 @@
 // What stays from line to line.
-use answers::{Outcome, Refusal};
+use answers::Refusal;
 use board::{After, Board};
 use lines::{Answer, refused};
 
@@ -30,9 +30,10 @@ impl Bench {
     }
 
     // The board that a request leaves is taken as it is, refused or not: the library says what it is.
-    pub(crate) fn after(&mut self, after: After) -> Answer {
-        self.board = Some(after.board);
-        told(after.answer)
+    pub(crate) fn left<T>(&mut self, after: After<T>) -> Result<T, Refusal> {
+        let After { answer, board } = after;
+        self.board = Some(board);
+        answer
     }
 }
 
@@ -65,10 +66,10 @@ pub(crate) fn done() -> Answer {
     Answer::first(b"ok")
 }
 
-pub(crate) fn told(outcome: Outcome) -> Answer {
+pub(crate) fn told(outcome: Result<(), Refusal>) -> Answer {
     match outcome {
-        Outcome::Done => done(),
-        Outcome::Refused(why) => refused(why),
+        Ok(()) => done(),
+        Err(why) => refused(why),
     }
 }
 

@@ -2,7 +2,7 @@
 use crate::desk::done;
 use crate::read::{frame_at, key_at, numbers};
 use answers::Refusal;
-use cipher::Hashed;
+use cipher::Fault;
 use lines::{Answer, refused};
 
 pub(crate) fn hash(line: &[u8]) -> Option<Answer> {
@@ -18,9 +18,9 @@ pub(crate) fn keyed_hash(line: &[u8]) -> Option<Answer> {
 }
 
 // The only fault that hashing has is an input that is too long.
-fn hashed(h: Hashed) -> Answer {
-    match h.answer {
-        cipher::Answer::Made(_) => done().hex(&h.octets),
-        cipher::Answer::Refused(_) => refused(Refusal::Long),
+fn hashed(hash: Result<[u8; 16], Fault>) -> Answer {
+    match hash {
+        Ok(block) => done().hex(&block),
+        Err(_) => refused(Refusal::Long),
     }
 }

@@ -11,25 +11,25 @@ impl Bench {
         let board = self.board?;
         let (addrs, floors) = self.lists.lent();
         let after = board::install(board, addrs, floors, slot as usize, number, key_at(line, 3));
-        Some(self.after(after))
+        Some(told(self.left(after)))
     }
 
     pub(crate) fn switch(&mut self, line: &[u8]) -> Option<Answer> {
         let [_, number, ..] = numbers(line, b".B")?;
         let after = board::switch(self.board?, u8::try_from(number).ok()?);
-        Some(self.after(after))
+        Some(told(self.left(after)))
     }
 
     pub(crate) fn link(&mut self, line: &[u8]) -> Option<Answer> {
         let [_, partner, ..] = numbers(line, b".AK")?;
         let after = board::add_link(self.board?, partner, key_at(line, 2));
-        Some(self.after(after))
+        Some(told(self.left(after)))
     }
 
     pub(crate) fn unlink(&mut self, line: &[u8]) -> Option<Answer> {
         let [_, partner, ..] = numbers(line, b".A")?;
         let after = board::remove_link(self.board?, partner);
-        Some(self.after(after))
+        Some(told(self.left(after)))
     }
 
     pub(crate) fn forget(&mut self, line: &[u8]) -> Option<Answer> {
@@ -48,6 +48,6 @@ impl Bench {
     pub(crate) fn marked(&mut self, line: &[u8]) -> Option<Answer> {
         let [_, stored, ..] = numbers(line, b".C")?;
         let after = board::move_mark(self.board?, u32::try_from(stored).ok()?);
-        Some(self.after(after))
+        Some(told(self.left(after)))
     }
 }

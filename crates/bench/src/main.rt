@@ -14,7 +14,6 @@ mod making;
 mod opening;
 mod read;
 mod requests;
-mod results;
 mod routing;
 mod sealing;
 mod show;

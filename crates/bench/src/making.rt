@@ -1,7 +1,6 @@
 // The board made, and what is lent.
 use crate::desk::{Bench, Lists, done, told};
 use crate::read::numbers;
-use answers::Outcome;
 use lines::Answer;
 
 impl Bench {
@@ -10,7 +9,7 @@ impl Bench {
     pub(crate) fn make(&mut self, line: &[u8]) -> Option<Answer> {
         let [_, own, found, ..] = numbers(line, b".A").or(numbers(line, b".AC"))?;
         let made = board::make(own, u32::try_from(found).ok()?);
-        if let Outcome::Done = made.answer {
+        if made.answer.is_ok() {
             self.board = Some(made.board);
             self.lists = Lists::new(self.lists.rows, self.lists.tops);
         }

@@ -1,6 +1,5 @@
 // Fields of a line, by value. A form has a letter for each field, as `lines::kind_of` reads them; a dot
 // is the line's word.
-use answers::Guard;
 use lines::Octets;
 
 // The numbers of a line that has that form, each at its field's place.
@@ -21,10 +20,7 @@ pub(crate) fn key_at(line: &[u8], i: usize) -> [u8; 16] {
     lines::array_of(text::field(line, i))
 }
 
-// A protection by its number: 256 stands for none.
-pub(crate) fn guard_of(t: u64) -> Guard {
-    match u8::try_from(t) {
-        Ok(k) => Guard::Under(k),
-        Err(_) => Guard::Clear,
-    }
+// What protected a frame, by its number: 256 stands for nothing.
+pub(crate) fn protection_of(t: u64) -> Option<u8> {
+    u8::try_from(t).ok()
 }

@@ -1,7 +1,6 @@
 // Frames sealed, at both layers.
 use crate::desk::{Bench, laid};
 use crate::read::{frame_at, numbers};
-use crate::results::sealed;
 use lines::{Answer, lent_of};
 
 impl Bench {
@@ -11,8 +10,7 @@ impl Bench {
         let mut out = [0; 256];
         let room = lent_of(self.room, &out);
         let sent = network::seal_frame(self.board?, frame.as_slice(), &mut out[..room]);
-        self.board = Some(sent.board);
-        Some(laid(sealed(sent.answer), &out))
+        Some(laid(self.left(sent), &out))
     }
 
     pub(crate) fn seal_aps(&mut self, line: &[u8]) -> Option<Answer> {
@@ -29,7 +27,6 @@ impl Bench {
             identifier,
             &mut out[..room],
         );
-        self.board = Some(sent.board);
-        Some(laid(sealed(sent.answer), &out))
+        Some(laid(self.left(sent), &out))
     }
 }

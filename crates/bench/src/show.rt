@@ -2,7 +2,6 @@
 use crate::desk::{Bench, done};
 use crate::read::numbers;
 use answers::Refusal;
-use board::Active;
 use lines::{Answer, refused};
 
 impl Bench {
@@ -13,8 +12,8 @@ impl Bench {
             .decimal(board.outgoing as u64)
             .decimal(board.aps as u64);
         let active = match board.active {
-            Active::Nobody => counters.word(b"-"),
-            Active::Slot(i) => counters.decimal(i as u64),
+            None => counters.word(b"-"),
+            Some(i) => counters.decimal(i as u64),
         };
         Some(active.decimal(board.mark as u64))
     }

@@ -1,5 +1,5 @@
 // Answers in the words of the bench language.
-use answers::{Guard, Opened, Refusal};
+use answers::{Opened, Refusal};
 use lines::{Answer, refused};
 
 pub(crate) fn done() -> Answer {
@@ -14,16 +14,15 @@ pub(crate) fn counted(made: Result<usize, Refusal>) -> Answer {
     }
 }
 
-pub(crate) fn opened(found: Opened) -> Answer {
+pub(crate) fn opened(found: Result<Opened, Refusal>) -> Answer {
     match found {
-        Opened::Frame(n, sender, guard) => guarded(done().decimal(n as u64).address(sender), guard),
-        Opened::Refused(why) => refused(why),
-    }
-}
-
-fn guarded(a: Answer, guard: Guard) -> Answer {
-    match guard {
-        Guard::Clear => a.word(b"none"),
-        Guard::Under(k) => a.decimal(k as u64),
+        Ok(opened) => {
+            let sender = done().decimal(opened.length as u64).address(opened.sender);
+            match opened.protection {
+                None => sender.word(b"none"),
+                Some(k) => sender.decimal(k as u64),
+            }
+        }
+        Err(why) => refused(why),
     }
 }

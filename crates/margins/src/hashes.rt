@@ -3,7 +3,7 @@ use crate::answer::done;
 use crate::lent::key_from;
 use crate::read::{numbers, octets_at};
 use answers::Refusal;
-use cipher::Hashed;
+use cipher::Fault;
 use lines::{Answer, refused};
 
 pub(crate) fn hash(line: &[u8]) -> Option<Answer> {
@@ -16,11 +16,10 @@ pub(crate) fn keyed_hash(line: &[u8]) -> Option<Answer> {
     Some(told(cipher::keyed_hash(key_from(0x20), octets_at(line, 1)?.as_slice())))
 }
 
-// The only fault that hashing has is an input that is too long.
-fn told(h: Hashed) -> Answer {
-    let verdict = match h.answer {
-        cipher::Answer::Made(_) => done(),
-        cipher::Answer::Refused(_) => refused(Refusal::Long),
-    };
-    verdict.hex(&h.octets)
+// The only fault that hashing has is an input that is too long; zeros are told for the hash then.
+fn told(hash: Result<[u8; 16], Fault>) -> Answer {
+    match hash {
+        Ok(block) => done().hex(&block),
+        Err(_) => refused(Refusal::Long).hex(&[0; 16]),
+    }
 }

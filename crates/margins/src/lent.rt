@@ -1,5 +1,5 @@
 // What every line is lent, made anew for it.
-use board::{Active, Board, Link, Slot};
+use board::{Board, Link, Slot};
 use std::array;
 
 // An output of octets EE, of which a line is lent the first.
@@ -79,7 +79,7 @@ pub(crate) fn board_at(outgoing: u32, mark: u32) -> Board {
         mark,
         aps: 255,
         slots: [slot(5, key_from(0x00)), slot(6, key_from(0x10))],
-        active: Active::Slot(0),
+        active: Some(0),
         links,
         ..fresh
     }

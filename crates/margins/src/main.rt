@@ -13,7 +13,6 @@ mod opening;
 mod parts;
 mod read;
 mod requests;
-mod results;
 mod sealing;
 mod writing;
 

@@ -1,22 +1,21 @@
 // Parts of a command's frame, each asked for alone.
 use crate::answer::done;
-use crate::read::{guard_of, numbers, octets_at};
-use answers::Guard;
+use crate::read::{numbers, octets_at, protection_of};
 use lines::Answer;
 
 // The part that a routine hands back.
-pub(crate) fn part<F: Fn(&[u8], Guard) -> &[u8]>(line: &[u8], of: F) -> Option<Answer>
+pub(crate) fn part<F: Fn(&[u8], Option<u8>) -> &[u8]>(line: &[u8], of: F) -> Option<Answer>
     requires { F.IsAlwaysCallable of }
 {
     let [_, protection, ..] = numbers(line, b".TG")?;
     let frame = octets_at(line, 2)?;
-    Some(done().hex(of(frame.as_slice(), guard_of(protection))))
+    Some(done().hex(of(frame.as_slice(), protection_of(protection))))
 }
 
 pub(crate) fn value(line: &[u8]) -> Option<Answer> {
     let [_, protection, tag, ..] = numbers(line, b".TBG")?;
     let frame = octets_at(line, 3)?;
     let tag = u8::try_from(tag).ok()?;
-    let found = commands::value_of(frame.as_slice(), guard_of(protection), tag);
+    let found = commands::value_of(frame.as_slice(), protection_of(protection), tag);
     Some(done().hex(found))
 }

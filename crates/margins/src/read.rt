@@ -1,6 +1,5 @@
 // Fields of a line, by value. A form is as `lines::kind_of` reads it; F of docs/MARGINS.md is G, of the
 // 512 octets that there is room for.
-use answers::Guard;
 use lines::Octets;
 
 // The numbers of a line that has that form, each at its field's place.
@@ -16,10 +15,7 @@ pub(crate) fn octets_at(line: &[u8], i: usize) -> Option<Octets<512>> {
     Octets::from_hex(text::field(line, i))
 }
 
-// A protection by its number: 256 stands for none.
-pub(crate) fn guard_of(t: u64) -> Guard {
-    match u8::try_from(t) {
-        Ok(k) => Guard::Under(k),
-        Err(_) => Guard::Clear,
-    }
+// What protected a frame, by its number: 256 stands for nothing.
+pub(crate) fn protection_of(t: u64) -> Option<u8> {
+    u8::try_from(t).ok()
 }

@@ -32,24 +32,15 @@ fn answer_to(line: &[u8]) -> Option<Answer> {
         b"keyedhash" => hashes::keyed_hash(line),
         b"print" => label_lines::print(line),
         b"label" => label_lines::label(line),
-        b"key" => part(line, |f, guard| commands::key_of(f, guard)),
-        b"digest" => part(line, |f, guard| commands::hash_of(f, guard)),
-        b"inner" => part(line, |f, guard| commands::inner_of(f, guard)),
-        b"tlvs" => part(line, |f, guard| commands::tlvs_of(f, guard)),
+        b"key" => part(line, |f, k| commands::key_of(f, k)),
+        b"digest" => part(line, |f, k| commands::hash_of(f, k)),
+        b"inner" => part(line, |f, k| commands::inner_of(f, k)),
+        b"tlvs" => part(line, |f, k| commands::tlvs_of(f, k)),
         b"value" => value(line),
-        b"header" => part(
-            line,
-            |f, guard| router::portion_of(f, guard, Portion::Header),
-        ),
-        b"auxiliary" => part(
-            line,
-            |f, guard| router::portion_of(f, guard, Portion::Auxiliary),
-        ),
-        b"payload" => part(
-            line,
-            |f, guard| router::portion_of(f, guard, Portion::Payload),
-        ),
-        b"tag" => part(line, |f, guard| router::portion_of(f, guard, Portion::Tag)),
+        b"header" => part(line, |f, k| router::portion_of(f, k, Portion::Header)),
+        b"auxiliary" => part(line, |f, k| router::portion_of(f, k, Portion::Auxiliary)),
+        b"payload" => part(line, |f, k| router::portion_of(f, k, Portion::Payload)),
+        b"tag" => part(line, |f, k| router::portion_of(f, k, Portion::Tag)),
         _ => None,
     }
 }

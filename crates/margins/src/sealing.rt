@@ -2,8 +2,7 @@
 use crate::answer::counted;
 use crate::lent::{Output, board_at, made_board};
 use crate::read::{numbers, octets_at};
-use crate::results::sealed;
-use board::{Board, Sent};
+use board::{After, Board};
 use lines::Answer;
 
 pub(crate) fn seal(line: &[u8]) -> Option<Answer> {
@@ -51,13 +50,13 @@ fn board_of(outgoing: u64, mark: u64) -> Option<Board> {
     Some(board_at(u32::try_from(outgoing).ok()?, u32::try_from(mark).ok()?))
 }
 
-fn left<F: FnOnce(&mut [u8]) -> Sent>(room: u64, seal: F) -> Option<Answer>
+fn left<F: FnOnce(&mut [u8]) -> After<usize>>(room: u64, seal: F) -> Option<Answer>
     requires { F.IsAlwaysCallable seal }
 {
     let mut out = Output::new(room)?;
     let sent = seal(out.lent());
     Some(
-        counted(sealed(sent.answer))
+        counted(sent.answer)
             .hex(out.as_slice())
             .decimal(sent.board.outgoing as u64),
     )

@@ -2,7 +2,6 @@
 use crate::answer::counted;
 use crate::lent::{Output, made_board};
 use crate::read::{numbers, octets_at};
-use crate::results::written;
 use commands::Command;
 use lines::Answer;
 
@@ -35,7 +34,7 @@ fn write(room: u64, acknowledged: bool, command: Command, rest: &[u8]) -> Option
     let mut out = Output::new(room)?;
     let wrote = commands::write_command(made_board(), acknowledged, command, b"", rest, out.lent());
     Some(
-        counted(written(wrote.answer))
+        counted(wrote.answer)
             .hex(out.as_slice())
             .decimal(wrote.board.aps as u64),
     )

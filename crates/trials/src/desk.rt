@@ -1,5 +1,5 @@
 // What stays from line to line.
-use answers::Outcome;
+use answers::Refusal;
 use board::{After, Board};
 use lines::{Answer, refused};
 
@@ -53,7 +53,7 @@ impl Trials {
     }
 
     // The board that a request leaves is taken as it is, refused or not: the library says what it is.
-    pub(crate) fn after(&mut self, after: After) -> Answer {
+    pub(crate) fn after(&mut self, after: After<()>) -> Answer {
         self.board = Some(after.board);
         told(after.answer)
     }
@@ -63,9 +63,9 @@ pub(crate) fn done() -> Answer {
     Answer::first(b"ok")
 }
 
-pub(crate) fn told(outcome: Outcome) -> Answer {
+pub(crate) fn told(outcome: Result<(), Refusal>) -> Answer {
     match outcome {
-        Outcome::Done => done(),
-        Outcome::Refused(why) => refused(why),
+        Ok(()) => done(),
+        Err(why) => refused(why),
     }
 }

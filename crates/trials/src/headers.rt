@@ -1,7 +1,8 @@
 // Requests on frames, which need no board.
 use crate::desk::done;
 use crate::read::{frame_at, numbers};
-use frames::{Layer, PlainRead, Read, Secured};
+use answers::Refusal;
+use frames::{Auxiliary, Layer, Read, Secured};
 use lines::{Answer, refused};
 
 pub(crate) fn frame(line: &[u8]) -> Option<Answer> {
@@ -16,11 +17,11 @@ pub(crate) fn aps_frame(line: &[u8]) -> Option<Answer> {
     Some(told(frames::read_frame(Layer::Aps, f.as_slice(), sender)))
 }
 
-fn told(found: Read) -> Answer {
+fn told(found: Result<Read, Refusal>) -> Answer {
     match found {
-        Read::Refused(why) => refused(why),
-        Read::Plain(h) => plain(h),
-        Read::Secured(s) => secured(s),
+        Ok(Read::Plain(h)) => plain(h),
+        Ok(Read::Secured(s)) => secured(s),
+        Err(why) => refused(why),
     }
 }
 
@@ -43,8 +44,8 @@ pub(crate) fn plain_frame(layer: Layer, line: &[u8]) -> Option<Answer> {
     numbers(line, b".F")?;
     let f = frame_at(line, 1)?;
     Some(match frames::read_plain(layer, f.as_slice()) {
-        PlainRead::Refused(why) => refused(why),
-        PlainRead::Header(h) => plain(h),
+        Ok(h) => plain(h),
+        Err(why) => refused(why),
     })
 }
 
@@ -58,13 +59,18 @@ pub(crate) fn nonce(line: &[u8]) -> Option<Answer> {
     Some(done().hex(&n))
 }
 
+// Identifier 1 alone has a sequence number behind the sender.
 pub(crate) fn aux(line: &[u8]) -> Option<Answer> {
-    let [_, identifier, count, sender, number, ..] = numbers(line, b".BCAB")?;
-    let id = u8::try_from(identifier).ok()?;
-    let count = u32::try_from(count).ok()?;
+    let [_, identifier, counter, sender, sequence, ..] = numbers(line, b".BCAB")?;
+    let aux = Auxiliary {
+        identifier: u8::try_from(identifier).ok()?,
+        counter: u32::try_from(counter).ok()?,
+        sender,
+        sequence: u8::try_from(sequence).ok()?,
+    };
     let mut out = [0xee; 14];
-    frames::lay_auxiliary(&mut out, 0, id, count, sender, u8::try_from(number).ok()?);
-    let n = if id % 4 == 1 { 14 } else { 13 };
+    frames::lay_auxiliary(&mut out, 0, aux);
+    let n = if identifier % 4 == 1 { 14 } else { 13 };
     Some(done().hex(&out[..n]))
 }
 

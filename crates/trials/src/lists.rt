@@ -1,7 +1,6 @@
 // Requests that are lent the lists, and how much of them is lent.
 use crate::desk::{Lists, Trials, done, told};
 use crate::read::{key_at, numbers};
-use answers::Outcome;
 use lines::Answer;
 
 impl Trials {
@@ -10,7 +9,7 @@ impl Trials {
     pub(crate) fn make(&mut self, line: &[u8]) -> Option<Answer> {
         let [_, own, ..] = numbers(line, b".A")?;
         let made = board::make(own, 0);
-        if let Outcome::Done = made.answer {
+        if made.answer.is_ok() {
             self.board = Some(made.board);
             self.lists = Lists::new(self.lists.rows, self.lists.tops);
         }

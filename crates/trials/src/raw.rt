@@ -2,7 +2,7 @@
 // the requests.
 use crate::desk::{Trials, done};
 use crate::read::{flag, key_at, numbers};
-use board::{Active, Link, Slot};
+use board::{Link, Slot};
 use lines::Answer;
 
 impl Trials {
@@ -47,8 +47,8 @@ impl Trials {
         let [_, i, ..] = numbers(line, b".B")?;
         let board = self.board.as_mut()?;
         board.active = match i {
-            255 => Active::Nobody,
-            _ => Active::Slot(i as usize),
+            255 => None,
+            _ => Some(i as usize),
         };
         Some(done())
     }

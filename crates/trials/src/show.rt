@@ -1,6 +1,6 @@
 // The tables, told whole: also what a free place holds.
 use crate::desk::{Lists, done};
-use board::{Active, Board, Link, Slot};
+use board::{Board, Link, Slot};
 use lines::Answer;
 
 pub(crate) fn counters(b: &Board) -> Answer {
@@ -18,8 +18,8 @@ pub(crate) fn next_mark(b: &Board) -> Answer {
 pub(crate) fn slots(b: &Board) -> Answer {
     let told = b.slots.iter().fold(done(), slot);
     match b.active {
-        Active::Nobody => told.word(b"-"),
-        Active::Slot(i) => told.decimal(i as u64),
+        None => told.word(b"-"),
+        Some(i) => told.decimal(i as u64),
     }
 }
 

@@ -50,7 +50,7 @@ fn aes(line: &[u8]) -> Option<Answer> {
 // The number of a field of octets is how many they are; a nonce has 13.
 fn ccm<F>(routine: F, line: &[u8], lent: usize) -> Option<Answer>
 where
-    F: Fn(usize, [u8; 16], [u8; 13], &[u8], &[u8], &mut [u8]) -> cipher::Answer,
+    F: Fn(usize, [u8; 16], [u8; 13], &[u8], &[u8], &mut [u8]) -> Result<usize, Fault>,
     requires { F.IsAlwaysCallable routine }
 {
     let [_, tag, _, nonce, ..] = numbers(line, b".BKFFF")?;
@@ -70,8 +70,8 @@ where
         &mut out[..room],
     );
     Some(match made {
-        cipher::Answer::Made(n) => done().hex(text::front(&out, n)),
-        cipher::Answer::Refused(fault) => refused_for(fault),
+        Ok(n) => done().hex(text::front(&out, n)),
+        Err(fault) => refused(refusal_of(fault)),
     })
 }
 
@@ -88,10 +88,10 @@ fn keyed_hash(line: &[u8]) -> Option<Answer> {
     Some(hashed(cipher::keyed_hash(array_at(line, 1), input.as_slice())))
 }
 
-fn hashed(h: cipher::Hashed) -> Answer {
-    match h.answer {
-        cipher::Answer::Made(_) => done().hex(&h.octets),
-        cipher::Answer::Refused(fault) => refused_for(fault),
+fn hashed(hash: Result<[u8; 16], Fault>) -> Answer {
+    match hash {
+        Ok(block) => done().hex(&block),
+        Err(fault) => refused(refusal_of(fault)),
     }
 }
 
@@ -100,12 +100,12 @@ fn done() -> Answer {
 }
 
 // The cipher's faults are refusals of the same names and numbers.
-fn refused_for(fault: Fault) -> Answer {
-    refused(match fault {
+fn refusal_of(fault: Fault) -> Refusal {
+    match fault {
         Fault::Room => Refusal::Room,
         Fault::Long => Refusal::Long,
         Fault::Short => Refusal::Short,
         Fault::Forged => Refusal::Forged,
         Fault::Argument => Refusal::Argument,
-    })
+    }
 }
