@@ -44,10 +44,10 @@ impl Bench {
             return Some(refused(Refusal::Room));
         }
         let half = addrs.len() / 2;
-        let from = slot as usize * half;
+        let rows = addrs.iter().zip(floors.iter()).enumerate();
         let mut a = done();
-        for (r, (&sender, &floor)) in addrs.iter().zip(floors.iter()).enumerate() {
-            if r >= from && r < from + half && sender != 0 {
+        for (r, (&sender, &floor)) in rows.skip(slot as usize * half).take(half) {
+            if sender != 0 {
                 a = entry(a, r, sender, floor);
             }
         }
