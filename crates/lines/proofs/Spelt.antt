@@ -1,13 +1,10 @@
 -- Laws of reading hex into an array of zeros: nothing is read, or the octets at its front are those that were spelt.
 -- Assumes nothing.
-use Rattle.std.proofs.Common.{◌≡◌, ℕ, ◌/◌, ◌%◌, ◌≤◌, Bool, true, false, eqb, leb, List, Some, None, length, take, drop, refl, ap, ◌∙◌, arith, leb-true}
+use Rattle.std.proofs.Common.{◌≡◌, ℕ, ◌/◌, Bool, true, false, List, Some, None, length, take, drop, refl, ap, ◌∙◌, arith}
 use lib.Seq.{take-length}
 use Rattle.std.proofs.lemmas.List.{take-append-le}
 use Rattle.std.specs.Prelude.{if◌then◌else◌}
-use Rattle.octets.specs.Choice.{both}
 use Rattle.octets.specs.Lists.{onto}
-use Rattle.octets.proofs.Choices.{both-parts}
-use Rattle.text.specs.Digits.{all_digits}
 use Rattle.text.specs.Hex.{octets_of, is_hex, Unhexed, read_into, unhexed}
 use Rattle.text.proofs.Hexed.{length-octets}
 use Rattle.lines.specs.Answer.{hexed}
@@ -27,17 +24,15 @@ module _ (l z o : List ℕ) (n : ℕ) (e : length z ≡ n) where
       let s = octets_of l in
       rw (← length-octets l) (take-append-le (length s) s (drop (length s) z) (omega arith) ∙ take-length s)
 
-  pub some_spelt : (k : ℕ) → read_into (Some k) o ≡ unhexed l z → (k ≤ n) × (Some (take k o) ≡ hexed n l)
+  pub some_spelt : (k : ℕ) → read_into (Some k) o ≡ unhexed l z → Some (take k o) ≡ hexed n l
   unfolding unhexed hexed is_hex
   some_spelt k h = rw (← e) (go (is_hex l (length z)) refl (ap (λ (u : Unhexed). u.answer) h) (ap (λ (u : Unhexed). u.out) h))
     where
       go : (t : Bool) → is_hex l (length z) ≡ t
           → Some k ≡ (if t then read_into (Some (length l / 2)) (onto (octets_of l) z) else read_into None z).answer
           → o ≡ (if t then read_into (Some (length l / 2)) (onto (octets_of l) z) else read_into None z).out
-          → (k ≤ length z) × (Some (take k o) ≡ (if t then Some (octets_of l) else None))
+          → Some (take k o) ≡ (if t then Some (octets_of l) else None)
       go true q a b =
-          let (even, rest) = both-parts (eqb (length l % 2) 0) (both (leb (length l / 2) (length z)) (all_digits 16 l)) q in
-          let (fits, hex) = both-parts (leb (length l / 2) (length z)) (all_digits 16 l) rest in
           let half : k ≡ length l / 2 = cc in
-          rw (half, b) (leb-true (length l / 2) (length z) fits, ap (λ (s : List ℕ). Some s) front-spelt)
+          rw (half, b) (ap (λ (s : List ℕ). Some s) front-spelt)
       go false q a b = cc

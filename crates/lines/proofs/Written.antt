@@ -1,6 +1,6 @@
 -- Laws of octets that are being written: a text laid behind them, and a whole line, which has room.
 -- Assumes nothing.
-use Rattle.std.proofs.Common.{◌≡◌, ℕ, zero, suc, ◌+◌, ◌/◌, ◌<◌, ◌≤◌, Bool, true, false, ltb, leb, List, [], ◌∷◌, ◌++◌, length, take, sym, refl, ap, ◌∙◌, arith, length-append, length-take-le, le-leb, leb-false, leb-true}
+use Rattle.std.proofs.Common.{◌≡◌, ℕ, zero, suc, ◌+◌, ◌/◌, ◌<◌, ◌≤◌, Bool, true, false, ltb, leb, List, [], ◌∷◌, ◌++◌, length, take, sym, refl, ap, ◌∙◌, append-nil, arith, length-append, length-take-le, take_all, le-leb, leb-false, leb-true}
 use lib.Seq.{take-paste, take-length}
 use borrow.Author.Tests.{lt-leb}
 use Rattle.std.specs.Prelude.{if◌then◌else◌}
@@ -17,43 +17,47 @@ pub more-not : (n : ℕ) (l s : List ℕ) → n < length l + length s → more n
 unfolding more
 more-not n l s h = rw (lt-leb (length l + length s) n h)
 
+-- behind a full output
+beyond : (o s : List ℕ) → o ≡ more (length o) o s
+beyond o [] = sym (more-fits (length o) o [] (omega arith) ∙ append-nil o)
+beyond o (c ∷ s) = sym (more-not (length o) o (c ∷ s) (omega arith))
+
 -- the first i octets of o, with s laid behind them
-module _ (o : List ℕ) (i : ℕ) (s : List ℕ) (h : i ≤ length o) where
-  front : length (take i o) ≡ i
-  front = length-take-le i o h
-
+module _ (o : List ℕ) (i : ℕ) (s : List ℕ) where
   -- where there is room
-  laid-fits : i + length s ≤ length o
-      → (ahead o i s ≤ length o) × (take (ahead o i s) (pasted o i s) ≡ more (length o) (take i o) s)
+  laid-fits : i + length s ≤ length o → take (ahead o i s) (pasted o i s) ≡ more (length o) (take i o) s
   unfolding ahead
-  laid-fits k =
-      rw (le-leb (i + length s) (length o) k) (
-        k,
-        take-paste o i s (length s) (omega arith) (omega arith) ∙ ap (λ (x : List ℕ). take i o ++ x) (take-length s)
-            ∙ sym (more-fits (length o) (take i o) s (rw front k)),
-      )
+  laid-fits h =
+      let e : length (take i o) ≡ i = length-take-le i o (omega arith) in
+      rw (le-leb (i + length s) (length o) h)
+      (take-paste o i s (length s) (omega arith) (omega arith) ∙ ap (λ (x : List ℕ). take i o ++ x) (take-length s)
+      ∙ sym (more-fits (length o) (take i o) s (rw e h)))
 
-  -- where there is none
-  laid-not : length o < i + length s
-      → (ahead o i s ≤ length o) × (take (ahead o i s) (pasted o i s) ≡ more (length o) (take i o) s)
+  -- where there is none, or the place is not in the output
+  laid-not : length o < i + length s → take (ahead o i s) (pasted o i s) ≡ more (length o) (take i o) s
   unfolding ahead
-  laid-not k =
-      rw (lt-leb (i + length s) (length o) k) (h, sym (more-not (length o) (take i o) s (rw front k)))
-
-  laid-both : (ahead o i s ≤ length o) × (take (ahead o i s) (pasted o i s) ≡ more (length o) (take i o) s)
-  laid-both = go (leb (i + length s) (length o)) refl
+  laid-not h = rw (lt-leb (i + length s) (length o) h) (go (leb i (length o)) refl)
     where
-      go : (t : Bool) → leb (i + length s) (length o) ≡ t
-          → (ahead o i s ≤ length o) × (take (ahead o i s) (pasted o i s) ≡ more (length o) (take i o) s)
+      go : (t : Bool) → leb i (length o) ≡ t → take i o ≡ more (length o) (take i o) s
+      go true e =
+          let k : i ≤ length o = leb-true i (length o) e in
+          let m : length (take i o) ≡ i = length-take-le i o k in
+          sym (more-not (length o) (take i o) s (rw m h))
+      go false e =
+          let k : length o ≤ i = omega (arith, leb-false i (length o) e) in
+          rw (take_all i o k) (beyond o s)
+
+  laid_both : take (ahead o i s) (pasted o i s) ≡ more (length o) (take i o) s
+  laid_both = go (leb (i + length s) (length o)) refl
+    where
+      go : (t : Bool) → leb (i + length s) (length o) ≡ t → take (ahead o i s) (pasted o i s) ≡ more (length o) (take i o) s
       go true e = laid-fits (leb-true (i + length s) (length o) e)
       go false e = laid-not (leb-false (i + length s) (length o) e)
 
--- so of what the code leaves: there are no more octets than room, and they are those of before with s behind them
-pub laid : (o : List ℕ) (i : ℕ) (s : List ℕ) {l : List ℕ} {r n : ℕ} → (l ≡ pasted o i s) × (r ≡ ahead o i s) → length o ≡ n → i ≤ n
-    → (r ≤ n) × (take r l ≡ more n (take i o) s)
-laid o i s put g h =
-    let both = laid-both o i s (rw g h) in
-    rw (put.0, put.1, ← g) both
+-- so of what the code leaves, of an output of n octets
+pub laid : (o : List ℕ) (i : ℕ) (s : List ℕ) {l : List ℕ} {r n : ℕ} → (l ≡ pasted o i s) × (r ≡ ahead o i s) → length o ≡ n
+    → take r l ≡ more n (take i o) s
+laid o i s put g = rw (put.0, put.1, ← g) (laid_both o i s)
 
 -- a number of 20 digits at most
 pub length-decimal : (k n : ℕ) → length (decimal_in k n) ≤ k

@@ -4,12 +4,11 @@ ghost use Rattle.text.specs.Hex.{unhexed};
 
 use crate::forms::place_of;
 
-// The first n of the array.
+// The first n of the array, or all of it where that is fewer.
 #[derive(Clone, Copy)]
 pub struct Octets<const N: usize> {
-    n: usize,
-    octets: [u8; N],
-    ghost fits: { n ≤ N },
+    pub n: usize,
+    pub octets: [u8; N],
 }
 
 impl<const N: usize> Octets<N> {
@@ -50,7 +49,7 @@ impl<const N: usize> Octets<N> {
     pub fn as_slice(&self) -> &[u8]
         ensures { result.now ≡ said self.now }
     {
-        &self.octets[..self.n]
+        text::front(&self.octets, self.n)
     }
 
     // These behind them. What has no room is left out whole.

@@ -2,6 +2,8 @@
 ghost use Rattle.std.specs.Prelude.{◌≡◌, ◌+◌, ◌*◌, ◌^◌, ◌<◌, ◌≤◌, length, position};
 ghost use Rattle.std.specs.List.{find, list_all, range_with_len};
 ghost use Rattle.octets.specs.Lists.{tab};
+ghost use Rattle.text.specs.Fields.{field_at};
+ghost use Rattle.text.specs.Hex.{read_into, unhexed};
 ghost use Rattle.lines.specs.Kinds.{field_kind, between, value_of, good};
 ghost use Rattle.lines.specs.Forms.{value_at, has_form, is_row, row_of, worth_at, among, place_of};
 ghost use Rattle.lines.specs.declared.forms.Kind.TheVariants as kinds;
@@ -152,6 +154,14 @@ fn value_at(line: &[u8], form: &[u8], i: usize) -> Option<u64>
     ensures { result ≡ value_at line.now form.now i }
 {
     value_of(kind_of(octets::octet(form, i)), text::field(line, i))
+}
+
+// Lays the octets of the line's first field whose letter in its form is one of these at the front of out, and
+// tells how many. Nothing where the line has no such field, or it spells none; out is then as it stood.
+pub fn octets_by(line: &[u8], form: &[u8], letters: &[u8], out: &mut [u8]) -> Option<usize>
+    ensures { read_into result out.new ≡ unhexed (field_at line.now (place_of form.now letters.now)) out.old }
+{
+    text::octets_of(text::field(line, place_of(form, letters)), out)
 }
 
 // The first place of the form that has one of those letters, or the place behind it.

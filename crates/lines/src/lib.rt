@@ -16,7 +16,7 @@ mod running;
 
 pub use answer::{Answer, Whole};
 pub use buffer::{Octets, array_of};
-pub use forms::{Kind, has_form, kind_of, numbers_of, row_of, value_of};
+pub use forms::{Kind, has_form, kind_of, numbers_of, octets_by, row_of, value_of};
 pub use lent::lent_of;
 pub use reader::Reader;
 pub use reading::{Line, Stop, is_silent};

@@ -11,16 +11,9 @@ returns-in_err-n g c =
     let none = none-spelt c.args.s.now zeros c.octets_of.new.out n (length-replicate {A = ℕ} n 0) c.in_err-n.ensures in
     rw c.from_residual.ensures none
 
-pub invariant_of-result : goal.invariant_of-result
-invariant_of-result g c =
-    let n = g.row.N in
-    let zeros = replicate {A = ℕ} n 0 in
-    let e = length-replicate {A = ℕ} n 0 in
-    record { fits = (some_spelt c.args.s.now zeros c.octets_of.new.out n e c.in_ok-n.n c.in_ok-n.ensures).0 }
-
 pub returns : goal.returns
 returns g c =
     let n = g.row.N in
     let zeros = replicate {A = ℕ} n 0 in
     let e = length-replicate {A = ℕ} n 0 in
-    (some_spelt c.args.s.now zeros c.octets_of.new.out n e c.in_ok-n.n c.in_ok-n.ensures).1
+    some_spelt c.args.s.now zeros c.octets_of.new.out n e c.in_ok-n.n c.in_ok-n.ensures

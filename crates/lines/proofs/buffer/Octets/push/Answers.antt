@@ -3,12 +3,7 @@ use Rattle.std.proofs.Common.{arith}
 use Rattle.lines.proofs.Written.{laid}
 use Rattle.lines.proofs.buffer.Octets.push.Goals as goal
 
-pub invariant_of-self : goal.invariant_of-self
-invariant_of-self g c =
-    let x = c.args.self.now in
-    record { fits = (laid x.octets x.n c.args.s.now c.put-self.ensures (omega arith) x.fits).0 }
-
 pub returns : goal.returns
 returns g c =
     let x = c.args.self.now in
-    (laid x.octets x.n c.args.s.now c.put-self.ensures (omega arith) x.fits).1
+    laid x.octets x.n c.args.s.now c.put-self.ensures (omega arith)

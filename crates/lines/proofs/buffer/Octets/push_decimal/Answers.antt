@@ -4,12 +4,7 @@ use Rattle.text.specs.Decimal.{decimal}
 use Rattle.lines.proofs.Written.{laid}
 use Rattle.lines.proofs.buffer.Octets.push_decimal.Goals as goal
 
-pub invariant_of-self : goal.invariant_of-self
-invariant_of-self g c =
-    let x = c.args.self.now in
-    record { fits = (laid x.octets x.n (decimal c.args.x) c.put_decimal-self.ensures (omega arith) x.fits).0 }
-
 pub returns : goal.returns
 returns g c =
     let x = c.args.self.now in
-    (laid x.octets x.n (decimal c.args.x) c.put_decimal-self.ensures (omega arith) x.fits).1
+    laid x.octets x.n (decimal c.args.x) c.put_decimal-self.ensures (omega arith)
