@@ -47,6 +47,7 @@ pub fn make(own: u64, found: u32) -> After<()>
     did(fresh_board(own, found))
 }
 
+// The changes that the definitions of requests name (specs/State).
 pub(crate) fn with_slot(board: Board, i: usize, s: Slot) -> Board
     requires { i < 2 }
     ensures { result ≡ with_slot board i s }

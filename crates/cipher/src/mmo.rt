@@ -51,6 +51,7 @@ pub(crate) fn hash_from(tables: &Tables, h: [u8; 16], b: usize, d: &[u8]) -> [u8
     ensures { result ≡ over hashed_in h (blocks (padded_after b d.now)) }
 {
     let n = (d.len() + 18) / 16;
+    // The padded blocks stand nowhere in memory: block i is made.
     let mut x = h;
     for i in 0..n {
         let next = hash_in(tables, x, padded_block_from(d, b, 16 * i));

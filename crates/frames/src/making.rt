@@ -46,6 +46,8 @@ fn place(l: Layer) -> usize
     }
 }
 
+// A bit cleared and a bit set are two sentences of document 01, each with a definition, here and in the headers
+// below.
 fn clear(l: Layer, x: u8) -> u8
     ensures { result ≡ cleared (bit_value l) x }
 {

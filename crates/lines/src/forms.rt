@@ -46,7 +46,8 @@ pub fn kind_of(letter: u8) -> Kind
 }
 
 // What a field is worth by its kind, nothing where it is malformed or beyond its range: an address or a decimal is
-// worth that number, the protection `none` 256; octets are worth how many they are, and a word 0.
+// worth that number, the protection `none` 256, since a line's fields are one array of numbers; octets are worth how
+// many they are, and a word 0.
 #[tactic(auto, using(octets::proofs::Choices::tests), unfolding(crate::specs::Kinds::value_of))]
 pub fn value_of(kind: Kind, s: &[u8]) -> Option<u64>
     ensures { result ≡ value_of kind s.now }

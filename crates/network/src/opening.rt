@@ -1,5 +1,6 @@
 // Opening, in document 01's order of judgement. How many rows a slot has, half of what the lists have, is
-// taken where these were judged, and handed down.
+// taken where these were judged, and handed down. Lists and output go down as the host lends them: a struct of
+// `&mut` would have each of them named anew in every clause.
 ghost use Rattle.std.specs.Prelude.{◌≡◌, ◌≤◌, ◌<◌, length};
 ghost use Rattle.settings.specs.Settings.{ours, longest, top};
 ghost use Rattle.octets.specs.Keys.{the_key};

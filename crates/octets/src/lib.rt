@@ -43,7 +43,8 @@ fn octets_at<const N: usize>(s: &[u8], i: usize) -> [u8; N]
     array::from_fn(|j| octet(rest, j))
 }
 
-// The number in two octets of s from place i on, least octet first; 0 for those past its end.
+// The number in two octets of s from place i on, least octet first; 0 for those past its end. Each width has a
+// `from_le_bytes` and a `to_le_bytes` of its own, and a trait over the three would be longer than these are.
 #[tactic(auto, unfolding(crate::specs::Least::number_at))]
 pub fn number2(s: &[u8], i: usize) -> u16
     ensures { result ≡ number_at 2 s.now i }

@@ -2,7 +2,7 @@
 ghost use Rattle.std.specs.Prelude.{◌≡◌, ◌≤◌};
 ghost use Rattle.text.specs.Digits.{digit_of, all_digits};
 
-// What a digit is worth, in either case; 16 for an octet that is none.
+// What a digit is worth, in either case; 16 for an octet that is none, so that one comparison with a base asks both.
 #[tactic(auto, unfolding(crate::specs::Digits::digit_of))]
 pub fn digit(c: u8) -> u8
     ensures { (result ≡ digit_of c) × (result ≤ 16) }

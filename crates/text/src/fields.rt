@@ -30,7 +30,7 @@ pub fn which(words: &[u8], w: &[u8]) -> usize
 }
 
 // Where the rest of the line behind k tabs begins. A k beyond the line's tabs ends at its end, in
-// as many turns as it has tabs.
+// as many turns as it has tabs. A turn passes a tab, and its number indexes nothing.
 fn behind(line: &[u8], k: usize) -> usize
     ensures { (result ≤ length line.now) × (drop result line.now ≡ behind k line.now) }
 {
