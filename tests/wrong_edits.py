@@ -14,10 +14,10 @@ longer fits the code shows nothing of the contract; it is counted apart.
 
 The edits of a crate stand in tests/wrong/CRATE.txt:
 
-    function: src/rows.rt least
+    function: src/lent.rt lent_of
     wrong: the greater of the two
-    old: if n < m { n }
-    new: if m < n { n }
+    old: .min(
+    new: .max(
 
 `old` must be in that function's body exactly once, where any white space counts as one space; further pairs of
 `old` and `new` belong to the same edit. The first edit of every function makes the first round, the second
