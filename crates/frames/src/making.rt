@@ -46,6 +46,7 @@ fn place(l: Layer) -> usize
     }
 }
 
+#[tactic(auto, unfolding(crate::specs::Making::cleared))]
 fn clear(l: Layer, x: u8) -> u8
     ensures { result ≡ cleared (bit_value l) x }
 {
@@ -55,6 +56,7 @@ fn clear(l: Layer, x: u8) -> u8
     }
 }
 
+#[tactic(auto, unfolding(crate::specs::Making::marked, crate::specs::Making::cleared))]
 fn mark(l: Layer, x: u8) -> u8
     ensures { result ≡ marked (bit_value l) x }
 {

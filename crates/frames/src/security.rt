@@ -8,12 +8,14 @@ ghost use Rattle.frames.specs.Security.{identifier_of, extended_of, with_level, 
 use crate::Auxiliary;
 
 // The key identifier that a security control names.
+#[tactic(auto, unfolding(crate::specs::Security::identifier_of))]
 pub fn identifier(control: u8) -> u8
     ensures { result ≡ identifier_of control }
 {
     (control >> 3) & 3
 }
 
+#[tactic(auto, unfolding(crate::specs::Security::extended_of))]
 pub(crate) fn extended(control: u8) -> u8
     ensures { result ≡ extended_of control }
 {
@@ -44,6 +46,7 @@ pub(crate) fn aux_length(control: u8) -> usize
     5 + 8 * long
 }
 
+#[tactic(auto, using(octets::proofs::Choices::tests), unfolding(crate::specs::Security::sender_of))]
 pub(crate) fn sender(f: &[u8], h: usize, given: u64) -> u64
     requires { h < length f.now }
     ensures { result ≡ sender_of f.now h given }
@@ -54,6 +57,7 @@ pub(crate) fn sender(f: &[u8], h: usize, given: u64) -> u64
     given
 }
 
+#[tactic(auto, using(octets::proofs::Choices::tests), unfolding(crate::specs::Security::sequence_of))]
 pub(crate) fn sequence(f: &[u8], h: usize) -> u8
     requires { h < length f.now }
     ensures { result ≡ sequence_of f.now h }
@@ -67,6 +71,7 @@ pub(crate) fn sequence(f: &[u8], h: usize) -> u8
 }
 
 // The nonce of CCM*, its control with the level that is worked with.
+#[tactic(auto, unfolding(crate::specs::Security::nonce_of))]
 pub fn nonce(sender: u64, counter: u32, control: u8) -> [u8; 13]
     ensures { result ≡ nonce_of ours sender counter control }
 {
