@@ -8,7 +8,7 @@ ghost use Rattle.frames.specs.Aps.{aps_form, aps_secured, aps_header, aps_keyed}
 use crate::Heading;
 use answers::Refusal;
 
-#[tactic(auto, using(octets::proofs::Choices::tests), unfolding(crate::specs::Aps::aps_form, crate::specs::Aps::aps_type, crate::specs::Aps::delivery, crate::specs::Aps::ack_format))]
+#[tactic(auto, unfolding(crate::specs::Aps::aps_form, crate::specs::Aps::aps_type, crate::specs::Aps::delivery, crate::specs::Aps::ack_format))]
 pub(crate) fn form(c: u8) -> bool
     ensures { result ≡ aps_form c }
 {
@@ -43,7 +43,7 @@ pub(crate) fn is_secured(c: u8) -> bool
     c / 32 % 2 == 1
 }
 
-#[tactic(auto, using(octets::proofs::Choices::tests), unfolding(crate::specs::Aps::aps_header, crate::specs::Aps::aps_type, crate::specs::Aps::delivery, crate::specs::Aps::ack_format))]
+#[tactic(auto, unfolding(crate::specs::Aps::aps_header, crate::specs::Aps::aps_type, crate::specs::Aps::delivery, crate::specs::Aps::ack_format))]
 fn header_length(c: u8) -> usize
     ensures { result ≡ aps_header c }
 {
@@ -63,7 +63,7 @@ fn header_length(c: u8) -> usize
     8
 }
 
-#[tactic(auto, using(octets::proofs::Choices::tests), unfolding(crate::specs::Reading::read_header))]
+#[tactic(auto, unfolding(crate::specs::Reading::read_header))]
 pub(crate) fn read(f: &[u8]) -> Result<Heading, Refusal>
     ensures { told_heading result ≡ read_header Aps f.now }
 {

@@ -8,6 +8,7 @@ use crate::{Layer, security};
 
 // The first n octets of f with x in place i, at the start of out; out stays where f or out has
 // fewer.
+#[tactic(auto, unfolding(crate::specs::Making::laid))]
 fn lay(out: &mut [u8], f: &[u8], n: usize, i: usize, x: u8)
     ensures { out.new ≡ laid out.old f.now n (set (take n f.now) i x) }
 {
@@ -25,6 +26,7 @@ fn lay(out: &mut [u8], f: &[u8], n: usize, i: usize, x: u8)
 
 // The authenticated octets of a secured frame: its first n, with level 5 in the security control,
 // which stands behind the header.
+#[tactic(auto, unfolding(crate::specs::Security::authenticated))]
 pub fn lay_authenticated(out: &mut [u8], frame: &[u8], header: usize, n: usize)
     ensures { out.new ≡ laid out.old frame.now n (authenticated ours frame.now header n) }
 {
@@ -67,6 +69,7 @@ fn mark(l: Layer, x: u8) -> u8
 }
 
 // The header of the plain frame: its security bit cleared.
+#[tactic(auto, unfolding(crate::specs::Making::plain_header))]
 pub fn lay_plain_header(out: &mut [u8], layer: Layer, frame: &[u8], header: usize)
     ensures { out.new ≡ laid out.old frame.now header (plain_header layer frame.now header) }
 {
@@ -75,6 +78,7 @@ pub fn lay_plain_header(out: &mut [u8], layer: Layer, frame: &[u8], header: usiz
 }
 
 // The header of the secured frame: its security bit set.
+#[tactic(auto, unfolding(crate::specs::Making::secured_header))]
 pub fn lay_secured_header(out: &mut [u8], layer: Layer, frame: &[u8], header: usize)
     ensures { out.new ≡ laid out.old frame.now header (secured_header layer frame.now header) }
 {

@@ -60,7 +60,7 @@ fn is_suited(l: Layer, control: u8) -> bool
 }
 
 // A secured frame behind h octets of header.
-#[tactic(auto, using(octets::proofs::Choices::tests), unfolding(crate::specs::Reading::read_secured))]
+#[tactic(auto, unfolding(crate::specs::Reading::read_secured))]
 fn secured_behind(l: Layer, f: &[u8], h: usize, given: u64) -> Result<Read, Refusal>
     ensures { told_read result ≡ read_secured ours l f.now h given }
 {
@@ -79,7 +79,7 @@ fn secured_behind(l: Layer, f: &[u8], h: usize, given: u64) -> Result<Read, Refu
     Ok(Read::Secured(announce(f, h, given)))
 }
 
-#[tactic(auto, using(octets::proofs::Choices::tests), unfolding(crate::specs::Reading::read_plain))]
+#[tactic(auto, unfolding(crate::specs::Reading::read_plain))]
 fn plain_behind(f: &[u8], h: usize) -> Result<Read, Refusal>
     ensures { told_read result ≡ read_plain f.now h }
 {
@@ -102,7 +102,7 @@ pub fn read_frame(layer: Layer, frame: &[u8], given: u64) -> Result<Read, Refusa
 }
 
 // A plain frame that is to be sealed.
-#[tactic(auto, using(octets::proofs::Choices::tests), unfolding(crate::specs::Reading::reading_plain))]
+#[tactic(auto, unfolding(crate::specs::Reading::reading_plain))]
 pub fn read_plain(layer: Layer, frame: &[u8]) -> Result<usize, Refusal>
     ensures { told_plain result ≡ reading_plain layer frame.now }
 {
@@ -117,7 +117,7 @@ pub fn read_plain(layer: Layer, frame: &[u8]) -> Result<usize, Refusal>
 }
 
 // A plain APS frame whose command is to be read.
-#[tactic(auto, using(octets::proofs::Choices::tests), unfolding(crate::specs::Reading::reading_command, crate::specs::Aps::aps_type))]
+#[tactic(auto, unfolding(crate::specs::Reading::reading_command, crate::specs::Aps::aps_type))]
 pub fn read_command(frame: &[u8]) -> Result<usize, Refusal>
     ensures { told_plain result ≡ reading_command frame.now }
 {

@@ -5,7 +5,7 @@ ghost use Rattle.frames.specs.Tunnelling.{inner_control, inner_security, may_tun
 use crate::{aps_header, security};
 
 // A control of a secured command that asks for no acknowledgement.
-#[tactic(auto, using(octets::proofs::Choices::tests), unfolding(crate::specs::Tunnelling::inner_control, crate::specs::Aps::aps_type, crate::specs::Aps::ack_request))]
+#[tactic(auto, unfolding(crate::specs::Tunnelling::inner_control, crate::specs::Aps::aps_type, crate::specs::Aps::ack_request))]
 fn is_inner_control(c: u8) -> bool
     ensures { result ≡ inner_control c }
 {
