@@ -1,7 +1,5 @@
 -- What `unseal` answers tells whether the tag fits; lists and floor change in that case alone.
-use native.Mathlib.Omega.{arith}
-use Rattle.std.proofs.Common.{Some}
-use Rattle.std.proofs.lemmas.Grind.{common_steps}
+use Rattle.std.proofs.Common.{Some, rules}
 use Rattle.settings.specs.Settings.{ours}
 use Rattle.octets.specs.Keys.{the_key}
 use Rattle.seals.proofs.Fairly.{ours-fair}
@@ -15,7 +13,7 @@ returns-in_err-length c =
     let w = lent y.addrs.now y.floors.now y.out.now in
     let h = admit-forged ours (the_key y.key) y.x.frame.now y.x.secured ours-fair w c.args.x.fits c.requires.room _ (Some y.r) _
     c.in_err-length.ensures.ok_part c.unseal.ensures in
-    grind (arith, common_steps)
+    search rules
 
 pub returns : goal.returns
 returns c =

@@ -3,6 +3,7 @@ use mathlib.Core.Path.{sym, ◌∙◌}
 use Prim.Native.Nat.{◌<◌}
 use native.Mathlib.Omega.{arith}
 use Rattle.board.proofs.Found.{slot-place}
+use Rattle.network.specs.Opening.{opened_keyed}
 use Rattle.network.proofs.opening.open_keyed.Goals as goal
 use Rattle.network.proofs.opening.open_keyed.Goals.{In_ok-i}
 
@@ -17,3 +18,7 @@ bounds-slots-i c = there (goal.at.bounds-slots-i c).In_ok-i
 
 pub open_under-requires-clause-slot : goal.open_under-requires-clause-slot
 open_under-requires-clause-slot c = there (goal.at.open_under-requires-clause-slot c).In_ok-i
+
+pub returns : goal.returns
+unfolding opened_keyed
+returns c = simp (sym c.slot_of.ensures ∙ c.in_ok-i.ensures.ok_part) c.open_under.ensures
