@@ -1,6 +1,5 @@
 -- What unsealing answers, by the laws of seals, is what the definition asks; only a frame that was made moves the floor.
-use native.Mathlib.Omega.{arith}
-use Rattle.std.proofs.lemmas.Grind.{common_steps}
+use Rattle.std.proofs.Common.{rules}
 use Rattle.settings.specs.Settings.{ours}
 use Rattle.seals.proofs.Fairly.{ours-fair}
 use Rattle.aps.proofs.Admission.{admit-plain, admit-forged}
@@ -11,11 +10,11 @@ returns-in_err-length-clause-out_after c =
     λ b el. let y = c.args in
     let h = admit-forged ours ours-fair _ y.x.frame.now y.x.secured y.out.now y.i y.x.fits c.requires.room _ _
     c.in_err-length.ensures.ok_part c.unseal.ensures b in
-    grind (arith, common_steps)
+    search rules
 
 pub returns-clause-out_after : goal.returns-clause-out_after
 returns-clause-out_after c =
     λ b el. let y = c.args in
     let h = admit-plain ours ours-fair _ y.x.frame.now y.x.secured y.out.now y.i y.x.fits c.requires.room _ _
     _ _ c.in_ok-length.ensures.ok_part c.unseal.ensures c.identifier.ensures b in
-    grind (arith, common_steps)
+    search rules
