@@ -10,6 +10,7 @@ use board::Link;
 use frames::Secured;
 
 // The key that an identifier of 0, 2 or 3 names.
+#[tactic(auto, unfolding(crate::specs::Keys::key_for))]
 pub(crate) fn key_for(key: [u8; 16], identifier: u8) -> [u8; 16]
     ensures { the_key result ≡ key_for (the_key key) identifier }
 {

@@ -11,6 +11,7 @@ use settings::LONGEST_APS;
 
 // Whether the tag of a secured frame fits the key that is found for it, whatever its counter. It
 // changes nothing, and a frame that is too long, is not secured or finds no key fits none.
+#[tactic(auto, unfolding(crate::specs::Opening::look_aps, crate::specs::Opening::looked_read))]
 pub fn look_frame(board: Board, frame: &[u8], given: u64) -> bool
     ensures { result ≡ look_aps ours board frame.now given }
 {
@@ -26,6 +27,7 @@ pub fn look_frame(board: Board, frame: &[u8], given: u64) -> bool
     }
 }
 
+#[tactic(auto, unfolding(crate::specs::Opening::looked_keyed))]
 fn look_keyed(links: [Link; 8], f: &[u8], s: Secured) -> bool
     ensures { result ≡ looked_keyed ours links f.now s (link_of links s.sender) }
 {

@@ -55,6 +55,7 @@ fn admit(l: Link, i: usize, x: Incoming, out: &mut [u8]) -> Result<Heard, Refusa
     })
 }
 
+#[tactic(auto, unfolding(crate::specs::Opening::opened_under))]
 fn open_under(l: Link, i: usize, x: Incoming, out: &mut [u8]) -> Result<Heard, Refusal>
     requires room { longest ≤ length out.old }
     requires entry { i < 8 }
@@ -70,6 +71,7 @@ fn open_under(l: Link, i: usize, x: Incoming, out: &mut [u8]) -> Result<Heard, R
     admit(l, i, x, out)
 }
 
+#[tactic(auto, unfolding(crate::specs::Opening::opened_keyed))]
 fn open_keyed(links: [Link; 8], x: Incoming, out: &mut [u8]) -> Result<Heard, Refusal>
     requires { longest ≤ length out.old }
     ensures out_after { (b : Board) → b.links ≡ links → heard b result out.new ≡ opened_keyed ours b x.entry.frame.now x.entry.secured out.old (link_of b.links x.entry.secured.sender) }
@@ -79,6 +81,7 @@ fn open_keyed(links: [Link; 8], x: Incoming, out: &mut [u8]) -> Result<Heard, Re
     open_under(links[i], i, x, out)
 }
 
+#[tactic(auto, unfolding(crate::specs::Opening::open_aps, crate::specs::Opening::opened_read))]
 fn open_read(links: [Link; 8], f: &[u8], given: u64, out: &mut [u8]) -> Result<Heard, Refusal>
     ensures out_after { (b : Board) → b.links ≡ links → heard b result out.new ≡ open_aps ours b f.now given out.old }
     ensures in_bounds { RaisesEntry result }

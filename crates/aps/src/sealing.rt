@@ -17,6 +17,7 @@ use seals::Outgoing;
 use settings::{LONGEST, LONGEST_APS_PLAIN};
 
 // Whether an identifier names a key of a link entry.
+#[tactic(auto, unfolding(crate::specs::Sealing::named))]
 fn is_named(identifier: u8) -> bool
     ensures { result ≡ named identifier }
 {
@@ -47,6 +48,7 @@ fn seal_under(
     seals::seal(named, Layer::Aps, aux, x.frame, x.header, out).ok_or(Refusal::Room)
 }
 
+#[tactic(auto, unfolding(crate::specs::Sealing::sealed_for))]
 fn seal_for(
     links: [Link; 8],
     sending: Sending,
@@ -62,6 +64,7 @@ fn seal_for(
     seal_under(sending, links[i].key, k, x, out)
 }
 
+#[tactic(auto, unfolding(crate::specs::Sealing::seal_aps, crate::specs::Sealing::sealed_read))]
 fn seal_read(
     links: [Link; 8],
     sending: Sending,

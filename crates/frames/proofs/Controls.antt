@@ -3,19 +3,13 @@
 use mathlib.Core.Path.{◌≡◌, ap, ◌∙◌}
 use Prim.Native.Nat.{ℕ, ◌+◌, ◌*◌, ◌/◌, ◌%◌, ◌≤◌, ◌<◌}
 use native.Mathlib.Omega.{arith}
-use lib.Bits.{bit_and, bit_or, and_high, or_shifted, or_shifted_r}
+use lib.Bits.{bit_and, bit_or, and_high, or_shifted}
 use borrow.Author.Tests.{eq-eqb, ne_eqb}
 use Rattle.frames.specs.Security.{identifier_of, extended_of, wire_control, numbered, aux_length}
 
 -- a level of three bits in place of the one that is there
-pub level-laid : (c v : ℕ) → c < 256 → v < 8 → bit_or (bit_and c 0xf8) v ≡ c / 8 * 8 + v
-level-laid c v h k = ap (λ (x : ℕ). bit_or x v) (and_high c 5 3) ∙ or_shifted (c / 8 % 32) 3 v k ∙ omega arith
-
--- an identifier of two bits, with bit 5
-pub identifier-laid : (k : ℕ) → k < 4 → bit_or (k * 8 % 256) 0x20 ≡ k * 8 + 32
-identifier-laid k h =
-    let e : k * 8 % 256 ≡ k * 8 = omega arith in
-    rw e (or_shifted_r 1 5 (k * 8) (omega arith) ∙ omega arith)
+pub level_laid : (c v : ℕ) → c < 256 → v < 8 → bit_or (bit_and c 0xf8) v ≡ c / 8 * 8 + v
+level_laid c v h k = ap (λ (x : ℕ). bit_or x v) (and_high c 5 3) ∙ or_shifted (c / 8 % 32) 3 v k ∙ omega arith
 
 pub extended-most : (c : ℕ) → extended_of c ≤ 1
 unfolding extended_of

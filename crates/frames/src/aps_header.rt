@@ -8,6 +8,7 @@ ghost use Rattle.frames.specs.Aps.{aps_form, aps_secured, aps_header, aps_keyed}
 use crate::Heading;
 use answers::Refusal;
 
+#[tactic(auto, unfolding(crate::specs::Aps::aps_form, crate::specs::Aps::aps_type, crate::specs::Aps::delivery, crate::specs::Aps::ack_format))]
 pub(crate) fn form(c: u8) -> bool
     ensures { result ≡ aps_form c }
 {
@@ -35,12 +36,14 @@ pub(crate) fn form(c: u8) -> bool
     delivery == 0
 }
 
+#[tactic(auto, unfolding(crate::specs::Aps::aps_secured))]
 pub(crate) fn is_secured(c: u8) -> bool
     ensures { result ≡ aps_secured c }
 {
     c / 32 % 2 == 1
 }
 
+#[tactic(auto, unfolding(crate::specs::Aps::aps_header, crate::specs::Aps::aps_type, crate::specs::Aps::delivery, crate::specs::Aps::ack_format))]
 fn header_length(c: u8) -> usize
     ensures { result ≡ aps_header c }
 {
@@ -60,6 +63,7 @@ fn header_length(c: u8) -> usize
     8
 }
 
+#[tactic(auto, unfolding(crate::specs::Reading::read_header))]
 pub(crate) fn read(f: &[u8]) -> Result<Heading, Refusal>
     ensures { told_heading result ≡ read_header Aps f.now }
 {
@@ -76,6 +80,7 @@ pub(crate) fn read(f: &[u8]) -> Result<Heading, Refusal>
     })
 }
 
+#[tactic(auto, unfolding(crate::specs::Aps::aps_keyed))]
 pub(crate) fn is_keyed(identifier: u8) -> bool
     ensures { result ≡ aps_keyed identifier }
 {

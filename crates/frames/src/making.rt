@@ -8,6 +8,7 @@ use crate::{Layer, security};
 
 // The first n octets of f with x in place i, at the start of out; out stays where f or out has
 // fewer.
+#[tactic(auto, unfolding(crate::specs::Making::laid))]
 fn lay(out: &mut [u8], f: &[u8], n: usize, i: usize, x: u8)
     ensures { out.new ≡ laid out.old f.now n (set (take n f.now) i x) }
 {
@@ -25,6 +26,7 @@ fn lay(out: &mut [u8], f: &[u8], n: usize, i: usize, x: u8)
 
 // The authenticated octets of a secured frame: its first n, with level 5 in the security control,
 // which stands behind the header.
+#[tactic(auto, unfolding(crate::specs::Security::authenticated))]
 pub fn lay_authenticated(out: &mut [u8], frame: &[u8], header: usize, n: usize)
     ensures { out.new ≡ laid out.old frame.now n (authenticated ours frame.now header n) }
 {
@@ -48,6 +50,7 @@ fn place(l: Layer) -> usize
 
 // A bit cleared and a bit set are two sentences of document 01, each with a definition, here and in the headers
 // below.
+#[tactic(auto, unfolding(crate::specs::Making::cleared))]
 fn clear(l: Layer, x: u8) -> u8
     ensures { result ≡ cleared (bit_value l) x }
 {
@@ -57,6 +60,7 @@ fn clear(l: Layer, x: u8) -> u8
     }
 }
 
+#[tactic(auto, unfolding(crate::specs::Making::marked, crate::specs::Making::cleared))]
 fn mark(l: Layer, x: u8) -> u8
     ensures { result ≡ marked (bit_value l) x }
 {
@@ -67,6 +71,7 @@ fn mark(l: Layer, x: u8) -> u8
 }
 
 // The header of the plain frame: its security bit cleared.
+#[tactic(auto, unfolding(crate::specs::Making::plain_header))]
 pub fn lay_plain_header(out: &mut [u8], layer: Layer, frame: &[u8], header: usize)
     ensures { out.new ≡ laid out.old frame.now header (plain_header layer frame.now header) }
 {
@@ -75,6 +80,7 @@ pub fn lay_plain_header(out: &mut [u8], layer: Layer, frame: &[u8], header: usiz
 }
 
 // The header of the secured frame: its security bit set.
+#[tactic(auto, unfolding(crate::specs::Making::secured_header))]
 pub fn lay_secured_header(out: &mut [u8], layer: Layer, frame: &[u8], header: usize)
     ensures { out.new ≡ laid out.old frame.now header (secured_header layer frame.now header) }
 {

@@ -8,6 +8,7 @@ ghost use Rattle.frames.specs.Network.{network_form, network_secured, network_ba
 use crate::Heading;
 use answers::Refusal;
 
+#[tactic(auto, unfolding(crate::specs::Network::network_form))]
 fn form(c: u16) -> bool
     ensures { result ≡ network_form c }
 {
@@ -26,6 +27,7 @@ fn form(c: u16) -> bool
     c < 16384
 }
 
+#[tactic(auto, unfolding(crate::specs::Network::network_secured))]
 fn is_secured(c: u16) -> bool
     ensures { result ≡ network_secured c }
 {
@@ -33,6 +35,7 @@ fn is_secured(c: u16) -> bool
 }
 
 // Where a source route starts.
+#[tactic(auto, unfolding(crate::specs::Network::network_base))]
 fn base(c: u16) -> usize
     ensures { (result ≡ network_base c) × (result ≤ 24) }
 {
@@ -41,6 +44,7 @@ fn base(c: u16) -> usize
     8 + 8 * destination + 8 * source
 }
 
+#[tactic(auto, unfolding(crate::specs::Network::network_header))]
 fn header_length(f: &[u8], c: u16) -> usize
     ensures { result ≡ network_header f.now c }
 {
@@ -52,6 +56,7 @@ fn header_length(f: &[u8], c: u16) -> usize
     b
 }
 
+#[tactic(auto, unfolding(crate::specs::Reading::read_header, crate::specs::Network::network_control))]
 pub(crate) fn read(f: &[u8]) -> Result<Heading, Refusal>
     ensures { told_heading result ≡ read_header Network f.now }
 {
@@ -69,6 +74,7 @@ pub(crate) fn read(f: &[u8]) -> Result<Heading, Refusal>
 }
 
 // Whether a key identifier and a nonce bit are the network layer's.
+#[tactic(auto, unfolding(crate::specs::Network::network_keyed))]
 pub(crate) fn is_keyed(identifier: u8, extended: u8) -> bool
     ensures { result ≡ network_keyed identifier extended }
 {

@@ -28,6 +28,7 @@ fn given_to(l: Layer, given: u64) -> u64
 }
 
 // What the auxiliary header behind h octets of header announces.
+#[tactic(auto, unfolding(crate::specs::Reading::announced, crate::specs::Security::counter_of))]
 fn announce(f: &[u8], h: usize, given: u64) -> Secured
     requires { h < length f.now }
     ensures { result ≡ announced f.now h given }
@@ -59,6 +60,7 @@ fn is_suited(l: Layer, control: u8) -> bool
 }
 
 // A secured frame behind h octets of header.
+#[tactic(auto, unfolding(crate::specs::Reading::read_secured))]
 fn secured_behind(l: Layer, f: &[u8], h: usize, given: u64) -> Result<Read, Refusal>
     ensures { told_read result ≡ read_secured ours l f.now h given }
 {
@@ -77,6 +79,7 @@ fn secured_behind(l: Layer, f: &[u8], h: usize, given: u64) -> Result<Read, Refu
     Ok(Read::Secured(announce(f, h, given)))
 }
 
+#[tactic(auto, unfolding(crate::specs::Reading::read_plain))]
 fn plain_behind(f: &[u8], h: usize) -> Result<Read, Refusal>
     ensures { told_read result ≡ read_plain f.now h }
 {
@@ -87,6 +90,7 @@ fn plain_behind(f: &[u8], h: usize) -> Result<Read, Refusal>
 }
 
 // A frame that is to be opened; given is the sender of an APS frame that carries none.
+#[tactic(auto, unfolding(crate::specs::Reading::reading))]
 pub fn read_frame(layer: Layer, frame: &[u8], given: u64) -> Result<Read, Refusal>
     ensures { told_read result ≡ reading ours layer frame.now given }
 {
@@ -98,6 +102,7 @@ pub fn read_frame(layer: Layer, frame: &[u8], given: u64) -> Result<Read, Refusa
 }
 
 // A plain frame that is to be sealed.
+#[tactic(auto, unfolding(crate::specs::Reading::reading_plain))]
 pub fn read_plain(layer: Layer, frame: &[u8]) -> Result<usize, Refusal>
     ensures { told_plain result ≡ reading_plain layer frame.now }
 {
@@ -112,6 +117,7 @@ pub fn read_plain(layer: Layer, frame: &[u8]) -> Result<usize, Refusal>
 }
 
 // A plain APS frame whose command is to be read.
+#[tactic(auto, unfolding(crate::specs::Reading::reading_command, crate::specs::Aps::aps_type))]
 pub fn read_command(frame: &[u8]) -> Result<usize, Refusal>
     ensures { told_plain result ≡ reading_command frame.now }
 {

@@ -8,18 +8,21 @@ ghost use Rattle.frames.specs.Security.{identifier_of, extended_of, with_level, 
 use crate::Auxiliary;
 
 // The key identifier that a security control names.
+#[tactic(auto, unfolding(crate::specs::Security::identifier_of))]
 pub fn identifier(control: u8) -> u8
     ensures { result ≡ identifier_of control }
 {
     (control >> 3) & 3
 }
 
+#[tactic(auto, unfolding(crate::specs::Security::extended_of))]
 pub(crate) fn extended(control: u8) -> u8
     ensures { result ≡ extended_of control }
 {
     (control >> 5) & 1
 }
 
+#[tactic(auto, using(crate::proofs::Controls::level_laid), unfolding(crate::specs::Security::with_level))]
 pub(crate) fn with_level(control: u8) -> u8
     ensures { result ≡ with_level ours control }
 {
@@ -28,12 +31,14 @@ pub(crate) fn with_level(control: u8) -> u8
 
 // The security control that sealing sends: level 0, the identifier, of which only the two lowest
 // bits count, and extended nonce.
+#[tactic(auto, unfolding(crate::specs::Security::wire_control))]
 pub fn wire_control(identifier: u8) -> u8
     ensures { result ≡ wire_control (identifier % 4) }
 {
     ((identifier & 3) << 3) | 0x20
 }
 
+#[tactic(auto, unfolding(crate::specs::Security::aux_length, crate::specs::Security::numbered, crate::specs::Security::extended_of))]
 pub(crate) fn aux_length(control: u8) -> usize
     ensures { (result ≡ aux_length control) × (result ≤ 14) }
 {
@@ -44,6 +49,7 @@ pub(crate) fn aux_length(control: u8) -> usize
     5 + 8 * long
 }
 
+#[tactic(auto, unfolding(crate::specs::Security::sender_of))]
 pub(crate) fn sender(f: &[u8], h: usize, given: u64) -> u64
     requires { h < length f.now }
     ensures { result ≡ sender_of f.now h given }
@@ -54,6 +60,7 @@ pub(crate) fn sender(f: &[u8], h: usize, given: u64) -> u64
     given
 }
 
+#[tactic(auto, unfolding(crate::specs::Security::sequence_of))]
 pub(crate) fn sequence(f: &[u8], h: usize) -> u8
     requires { h < length f.now }
     ensures { result ≡ sequence_of f.now h }
@@ -67,6 +74,7 @@ pub(crate) fn sequence(f: &[u8], h: usize) -> u8
 }
 
 // The nonce of CCM*, its control with the level that is worked with.
+#[tactic(auto, unfolding(crate::specs::Security::nonce_of))]
 pub fn nonce(sender: u64, counter: u32, control: u8) -> [u8; 13]
     ensures { result ≡ nonce_of ours sender counter control }
 {

@@ -5,6 +5,7 @@ ghost use Rattle.frames.specs.Tunnelling.{inner_control, inner_security, may_tun
 use crate::{aps_header, security};
 
 // A control of a secured command that asks for no acknowledgement.
+#[tactic(auto, unfolding(crate::specs::Tunnelling::inner_control, crate::specs::Aps::aps_type, crate::specs::Aps::ack_request))]
 fn is_inner_control(c: u8) -> bool
     ensures { result ≡ inner_control c }
 {
@@ -21,6 +22,7 @@ fn is_inner_control(c: u8) -> bool
 }
 
 // A security control that names identifier 0, 2 or 3, with extended nonce.
+#[tactic(auto, unfolding(crate::specs::Tunnelling::inner_security))]
 fn is_inner_security(c: u8) -> bool
     ensures { result ≡ inner_security c }
 {
@@ -31,6 +33,7 @@ fn is_inner_security(c: u8) -> bool
 }
 
 // Whether a frame may stand inside a Tunnel, as far as a router can tell, which has no key for it.
+#[tactic(auto, unfolding(crate::specs::Tunnelling::may_tunnel))]
 pub fn may_tunnel(frame: &[u8]) -> bool
     ensures { result ≡ may_tunnel frame.now }
 {

@@ -2,28 +2,24 @@
 -- Assumes nothing.
 use Rattle.std.proofs.Common.{Option, Some, None}
 use mathlib.Core.Path.{◌≡◌, refl, sym, ap, ap₂, ◌∙◌}
-use mathlib.Core.Bool.{Bool, true}
+use mathlib.Core.Bool.{true}
 use mathlib.Core.List.{List}
 use Prim.Native.Nat.{ℕ, ◌+◌, ◌*◌, ◌≤◌, ◌<◌}
 use native.Mathlib.Omega.{arith}
 use lib.ListN.{length}
-use borrow.Author.Tests.{ne_eqb, le-ltb}
-use Rattle.settings.specs.Settings.{Settings, longest, top}
-use Rattle.std.specs.Prelude.{if◌then◌else◌}
-use Rattle.octets.specs.Choice.{both}
+use Rattle.settings.specs.Settings.{Settings, longest}
 use Rattle.octets.specs.Keys.{Key}
-use Rattle.network.specs.Opening.{Lent, leaving, row_of, floor_of, or_free, row_for, with_row, admitted, opened_under}
-use Rattle.network.specs.Code.{opened_heard}
+use Rattle.network.specs.Opening.{Lent, leaving, row_of, or_free, row_for, with_row, admitted}
 use Rattle.answers.specs.Numbers.{under, opened, turned_down}
 use Rattle.cipher.specs.Answers.{product}
-use Rattle.cipher.specs.Ccm.{Verdict, valid, invalid}
+use Rattle.cipher.specs.Ccm.{Verdict}
 use Rattle.frames.specs.declared.Layer.TheVariants.{Network}
 use Rattle.frames.specs.declared.Secured.{Secured}
 use Rattle.frames.specs.Reading.{secured, reading}
 use Rattle.frames.proofs.Found.{secured-frame}
 use Rattle.board.specs.Rows.{Lists}
 use Rattle.board.proofs.Found.{row-place}
-use Rattle.seals.specs.Sealing.{Fair, message_of, is_valid, genuine, told_unsealed, sound, unsealing, looking}
+use Rattle.seals.specs.Sealing.{Fair, message_of, told_unsealed, sound, unsealing}
 use Rattle.seals.proofs.Opened.{tells-sound}
 use Rattle.seals.proofs.Tells.{plain-tells, forged-tells}
 
@@ -59,30 +55,6 @@ module _ (z : Settings) (k : Key) (f : List ℕ) (s : Secured) where
         let m = forged-tells z fair k Network f s w.out t room u p eu e in
         ap (λ (x : List ℕ). leaving (turned_down 9) (record { lists = w.lists; out = x })) m.1
         ∙ sym (ap (λ (x : Verdict). admitted f s w x q) m.0)
-
-  -- there is no row: 9 comes before 10
-  pub away : sound z f s ≡ true → (b : Bool) → looking z k f s ≡ b
-      → (w : Lent) → leaving (turned_down (if b then 10 else 9)) w ≡ admitted f s w (message_of z k f s) None
-  unfolding looking genuine admitted
-  away t b e w =
-      ap (λ (x : Bool). leaving (turned_down (if x then 10 else 9)) w) (sym e ∙ ap (λ (x : Bool). both x (is_valid (message_of z k f s))) t)
-      ∙ go (message_of z k f s)
-    where
-      go : (m : Verdict) → leaving (turned_down (if is_valid m then 10 else 9)) w ≡ admitted f s w m None
-      go (valid m) = refl
-      go invalid = refl
-
-  -- ---- 8: the sender's row is looked for once, and floor and row go by it
-
-  module _ (m i : ℕ) (w : Lent) (below : s.counter ≡ top → ⊥) where
-    pub under-heard : (r : ℕ) → row_of m w.lists i s.sender ≡ Some r → opened_heard z k r f s w ≡ opened_under z m k i f s w
-    unfolding opened_heard opened_under floor_of row_for
-    under-heard r e = simp (ne_eqb _ _ below, e)
-
-    pub under-new : row_of m w.lists i s.sender ≡ None
-        → admitted f s w (message_of z k f s) (row_of m w.lists i 0) ≡ opened_under z m k i f s w
-    unfolding opened_under floor_of row_for
-    under-new e = simp (ne_eqb _ _ below, e, le-ltb s.counter 0 (omega arith))
 
 -- the row that was found is one that the list has
 pub row-there : (m : ℕ) (w : Lists) (i a r : ℕ) → row_for m w i a ≡ Some r → r < length w.addrs

@@ -10,6 +10,7 @@ use settings::LONGEST;
 
 // Whether the tag of a secured frame fits the key that is found for it, whatever its counter. It
 // changes nothing, and a frame that is too long, is not secured or finds no key fits none.
+#[tactic(auto, unfolding(crate::specs::Opening::look_network, crate::specs::Opening::looked_read))]
 pub fn look_frame(board: Board, frame: &[u8]) -> bool
     ensures { result ≡ look_network ours board frame.now }
 {
@@ -25,6 +26,7 @@ pub fn look_frame(board: Board, frame: &[u8]) -> bool
     }
 }
 
+#[tactic(auto, unfolding(crate::specs::Opening::looked_keyed))]
 fn look_keyed(slots: [Slot; 2], f: &[u8], s: Secured) -> bool
     ensures { result ≡ looked_keyed ours slots f.now s (slot_of slots s.sequence) }
 {

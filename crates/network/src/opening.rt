@@ -44,6 +44,7 @@ fn admit(
 }
 
 // A frame for which there is no row: 9 comes before 10.
+#[tactic(auto, unfolding(crate::specs::Opening::admitted, seals::specs::Sealing::looking, seals::specs::Sealing::genuine))]
 fn turn_away(key: [u8; 16], x: Incoming) -> Result<Opened, Refusal>
     ensures { (w : Lent) → leaving (told_opened result) w ≡ admitted x.entry.frame.now x.entry.secured w (message_of ours (the_key key) x.entry.frame.now x.entry.secured) None }
 {
@@ -54,6 +55,7 @@ fn turn_away(key: [u8; 16], x: Incoming) -> Result<Opened, Refusal>
 }
 
 // A sender that has row r.
+#[tactic(auto, unfolding(crate::specs::Code::opened_heard))]
 fn open_heard(
     key: [u8; 16],
     r: usize,
@@ -95,6 +97,7 @@ fn open_new(
     }
 }
 
+#[tactic(auto, unfolding(crate::specs::Opening::opened_under, crate::specs::Code::opened_heard, crate::specs::Opening::floor_of, crate::specs::Opening::row_for))]
 fn open_under(
     rows: usize,
     key: [u8; 16],
@@ -118,6 +121,7 @@ fn open_under(
     }
 }
 
+#[tactic(auto, unfolding(crate::specs::Opening::opened_keyed))]
 fn open_keyed(
     rows: usize,
     slots: [Slot; 2],
@@ -136,6 +140,7 @@ fn open_keyed(
 
 // Opens a network frame: the plain frame stands at the start of out. A refusal leaves the lists and
 // out as they stood, and no frame changes the board.
+#[tactic(auto, unfolding(crate::specs::Opening::open_network, crate::specs::Opening::opened_read, board::specs::Rows::lists_fit))]
 pub fn open_frame(
     board: Board,
     frame: &[u8],

@@ -27,6 +27,7 @@ fn seal_under(sending: Sending, s: Slot, x: Outgoing, out: &mut [u8]) -> Result<
     seals::seal(s.key, Layer::Network, aux, x.frame, x.header, out).ok_or(Refusal::Room)
 }
 
+#[tactic(auto, unfolding(crate::specs::Sealing::sealed_by))]
 fn seal_active(
     slots: [Slot; 2],
     i: usize,
@@ -47,6 +48,7 @@ fn seal_active(
     seal_under(sending, s, x, out)
 }
 
+#[tactic(auto, unfolding(crate::specs::Sealing::sealed_by))]
 fn seal_by(
     slots: [Slot; 2],
     active: Option<usize>,
@@ -63,6 +65,7 @@ fn seal_by(
     }
 }
 
+#[tactic(auto, unfolding(crate::specs::Sealing::seal_network, crate::specs::Sealing::sealed_read))]
 fn seal_read(
     slots: [Slot; 2],
     active: Option<usize>,

@@ -1,33 +1,12 @@
--- Parts of a list: its end, lent and come back, and lists one behind the other at its start.
+-- One list behind another at the start of an output.
 -- Assumes nothing.
 use mathlib.Core.Path.{◌≡◌, sym, ap, ap₂, ◌∙◌}
-use mathlib.Core.List.{List, [], ◌++◌, append-nil, append_assoc}
-use Prim.Native.Nat.{ℕ, ◌+◌, ◌-◌, ◌≤◌}
-use native.Mathlib.Nat.{le_refl}
-use lib.ListN.{length, take, drop, length-append, length-drop, drop_of_length-le, take-append-drop}
-use lib.Seq.{take_all, take_at, drop_at, drop-drop, take-length, length-take-le}
-use borrow.Rule.Slice.PartMut.{put_mid, post_of}
+use mathlib.Core.List.{List, ◌++◌, append_assoc}
+use Prim.Native.Nat.{ℕ, ◌+◌, ◌≤◌}
+use lib.ListN.{length, take, drop, length-append, take-append-drop}
+use lib.Seq.{take_at, drop_at, drop-drop, take-length}
 use Rattle.octets.proofs.Pasted.{pasted-fits}
 use Rattle.octets.specs.Lists.{onto, pasted}
-
--- ---- the end of a slice, lent: what it is, and what the whole is once it has come back
-
-pub tail-part : {A : Type 0} (l : List A) (n : ℕ) → take (length l - n) (drop n l) ≡ drop n l
-tail-part l n = take_all (length l - n) (drop n l) (rw (length-drop n l) (le_refl (length l - n)))
-
-module _ (o y : List ℕ) (h : ℕ) (b : h ≤ length o) where
-  pub back-front : take h (put_mid h (length o - h) o y) ≡ take h o
-  back-front = take_at (take h o) _ h (length-take-le h o b)
-
-  pub back-tail : drop h (put_mid h (length o - h) o y) ≡ y
-  back-tail =
-      drop_at (take h o) _ h (length-take-le h o b)
-      ∙ ap (λ (x : List ℕ). y ++ x) end ∙ append-nil y
-    where
-      end : post_of h (length o - h) o ≡ []
-      end = let e : length (drop h o) ≤ length o - h = rw (length-drop h o) (le_refl (length o - h)) in drop_of_length-le (drop h o) e
-
--- ---- one list behind another at the start of an output
 
 pub onto-more : (s c o : List ℕ) → s ++ onto c (drop (length s) o) ≡ onto (s ++ c) o
 onto-more s c o =

@@ -29,6 +29,7 @@ pub struct Outgoing<'a> {
     ghost headed: { (2 ≤ header) × (header ≤ length frame.now) },
 }
 
+#[tactic(auto, unfolding(crate::specs::Sealing::sound))]
 fn is_sound(f: &[u8], s: Secured) -> bool
     ensures { result ≡ sound ours f.now s }
 {
@@ -51,6 +52,7 @@ fn is_sound(f: &[u8], s: Secured) -> bool
 
 // The plain frame of a secured one, at the start of out, where its tag fits the key. Otherwise, and
 // where out has fewer than 116 octets, out is as it stood.
+#[tactic(auto, unfolding(crate::specs::Sealing::unsealing))]
 pub fn unseal(
     key: [u8; 16],
     layer: Layer,
@@ -86,6 +88,7 @@ fn unseal_body(
     cipher::unseal(settings::TAG, key, nonce, a, &f[n..], &mut out[h..])
 }
 
+#[tactic(auto, unfolding(crate::specs::Sealing::sound))]
 fn unseal_sound(key: [u8; 16], l: Layer, f: &[u8], s: Secured, out: &mut [u8]) -> Option<usize>
     requires { (sound ours f.now s ≡ true) × (longest ≤ length out.old) }
     ensures { product (told_unsealed result) out.new ≡ unsealing ours (the_key key) l f.now s out.old }
@@ -109,6 +112,7 @@ pub fn look(key: [u8; 16], frame: &[u8], secured: Secured) -> bool
 }
 
 // How many octets of the auxiliary header are sent: only identifier 1 sends a key sequence number.
+#[tactic(auto, unfolding(crate::specs::Sealing::sent_octets))]
 fn sent_octets(identifier: u8) -> usize
     ensures { (result ≡ sent_octets identifier) × (result ≤ 14) }
 {
@@ -118,6 +122,7 @@ fn sent_octets(identifier: u8) -> usize
     settings::APS_AUX
 }
 
+#[tactic(auto, unfolding(crate::specs::Sealing::sealable))]
 fn is_sealable(identifier: u8, f: &[u8], h: usize) -> bool
     ensures { result ≡ sealable ours identifier f.now h }
 {
@@ -137,6 +142,7 @@ fn is_sealable(identifier: u8, f: &[u8], h: usize) -> bool
 // length that it answers. None is made, and out stays, where the identifier is above 3, where the
 // frame has fewer octets or leaves no room for auxiliary header and tag, or where out has fewer than
 // 116 octets.
+#[tactic(auto, unfolding(crate::specs::Sealing::sealing))]
 pub fn seal(
     key: [u8; 16],
     layer: Layer,
@@ -160,6 +166,7 @@ pub fn seal(
 }
 
 // Both headers, then the cipher's part behind them.
+#[tactic(auto, unfolding(crate::specs::Sealing::sealable))]
 fn seal_sound(
     key: [u8; 16],
     l: Layer,

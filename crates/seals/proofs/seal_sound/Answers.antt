@@ -1,7 +1,7 @@
 -- Both headers are laid before the cipher writes behind them, so what it authenticates is taken from what is sent; it never refuses.
-use mathlib.Core.Path.{◌≡◌, refl, sym, ◌∙◌}
+use mathlib.Core.Path.{refl, sym, ◌∙◌}
 use native.Mathlib.Omega.{arith}
-use lib.ListN.{length-take, replicate}
+use lib.ListN.{replicate}
 use Rattle.settings.specs.Settings.{ours, longest}
 use Rattle.octets.specs.Keys.{the_key}
 use Rattle.cipher.proofs.Told.{ok-was, err-was}
@@ -20,24 +20,6 @@ there c =
     c.sent_octets.ensures.0 c.lay_secured_header.ensures
     c.lay_auxiliary.ensures refl c.lay_authenticated.ensures
     c.wire_control.ensures c.nonce-nonce.ensures c.seal_body.ensures.out_after c.seal_body.ensures.out_unchanged
-
-pub overflow_add-n : goal.overflow_add-n
-overflow_add-n c = let t = sealable-tells ours _ _ _ c.requires.1.0 in omega (arith, c.sent_octets.ensures.1)
-
-pub slice_bounds-a-end : goal.slice_bounds-a-end
-slice_bounds-a-end c =
-    let t = sealable-tells ours _ _ _ c.requires.1.0 in
-    omega (arith, c.sent_octets.ensures.0)
-
-pub slice_bounds-seal_body-end : goal.slice_bounds-seal_body-end
-slice_bounds-seal_body-end c =
-    let t = sealable-tells ours _ _ _ c.requires.1.0 in
-    simp length-take (omega (arith, c.sent_octets.ensures.0))
-
-pub seal_body-requires : goal.seal_body-requires
-seal_body-requires c =
-    let t = sealable-tells ours _ _ _ c.requires.1.0 in
-    (t.within, omega (arith, c.sent_octets.ensures.0))
 
 pub overflow_add-result : goal.overflow_add-result
 overflow_add-result c =

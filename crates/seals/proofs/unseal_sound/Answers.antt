@@ -1,7 +1,7 @@
 -- The cipher is asked what the definition asks and lays the message behind h octets; where it did, the plain header goes before.
-use mathlib.Core.Path.{◌≡◌, refl, sym, ◌∙◌}
+use mathlib.Core.Path.{refl, sym, ◌∙◌}
 use native.Mathlib.Omega.{arith}
-use lib.ListN.{length-take, replicate}
+use lib.ListN.{replicate}
 use Rattle.settings.specs.Settings.{ours, longest}
 use Rattle.octets.specs.Keys.{the_key}
 use Rattle.cipher.proofs.Told.{ok-was, err-was}
@@ -24,24 +24,6 @@ there c =
           (replicate longest 0) _ _ refl
           c.lay_authenticated.ensures c.nonce-nonce.ensures;
     }
-
-pub overflow_add-n : goal.overflow_add-n
-overflow_add-n c = let t = sound-tells ours _ _ c.requires.0 in omega arith
-
-pub slice_bounds-a-end : goal.slice_bounds-a-end
-slice_bounds-a-end c =
-    let t = sound-tells ours _ _ c.requires.0 in
-    omega arith
-
-pub slice_bounds-unseal_body-end : goal.slice_bounds-unseal_body-end
-slice_bounds-unseal_body-end c =
-    let t = sound-tells ours _ _ c.requires.0 in
-    simp length-take (omega arith)
-
-pub unseal_body-requires : goal.unseal_body-requires
-unseal_body-requires c =
-    let t = sound-tells ours _ _ c.requires.0 in
-    (omega arith, omega arith)
 
 pub overflow_add-result : goal.overflow_add-result
 overflow_add-result c =

@@ -1,17 +1,18 @@
 -- The board's judgement refuses as the definition does; behind it the frame has what sealing asks, so that it is made.
 use mathlib.Core.Path.{sym, ap, ◌∙◌}
+use native.Mathlib.Omega.{arith}
+use Rattle.std.proofs.lemmas.Grind.{common_steps}
 use Rattle.settings.specs.Settings.{ours}
 use Rattle.octets.specs.Keys.{the_key}
 use Rattle.answers.specs.Numbers.{told}
-use Rattle.answers.proofs.Exits.{handed-on}
 use Rattle.aps.proofs.Sends.{refused-link, sent-link, sealable-aps, named-most}
 use Rattle.aps.proofs.sealing.seal_under.Goals as goal
 
 pub returns-in_err-may_send : goal.returns-in_err-may_send
 returns-in_err-may_send c =
-    let y = c.args in
-    rw (handed-on c.from_residual.result _ c.from_residual.ensures.1)
-    (refused-link ours y.sending (the_key y.key) y.k y.x.frame.now y.x.header y.out.now _ (sym c.in_err-may_send.ensures))
+    λ b e. let y = c.args in
+    let h = refused-link ours y.sending (the_key y.key) y.k y.x.frame.now y.x.header y.out.now _ (sym c.in_err-may_send.ensures) b e in
+    grind (arith, common_steps)
 
 pub returns : goal.returns
 returns c =
