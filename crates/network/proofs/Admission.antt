@@ -7,9 +7,11 @@ use mathlib.Core.List.{List}
 use Prim.Native.Nat.{ℕ, ◌+◌, ◌*◌, ◌≤◌, ◌<◌}
 use native.Mathlib.Omega.{arith}
 use lib.ListN.{length}
-use Rattle.settings.specs.Settings.{Settings, longest}
+use borrow.Author.Tests.{ne_eqb, le-ltb}
+use Rattle.settings.specs.Settings.{Settings, longest, top}
 use Rattle.octets.specs.Keys.{Key}
-use Rattle.network.specs.Opening.{Lent, leaving, row_of, or_free, row_for, with_row, admitted}
+use Rattle.network.specs.Opening.{Lent, leaving, row_of, or_free, row_for, with_row, admitted, floor_of, opened_under}
+use Rattle.network.specs.Code.{opened_heard}
 use Rattle.answers.specs.Numbers.{under, opened, turned_down}
 use Rattle.cipher.specs.Answers.{product}
 use Rattle.cipher.specs.Ccm.{Verdict}
@@ -55,6 +57,18 @@ module _ (z : Settings) (k : Key) (f : List ℕ) (s : Secured) where
         let m = forged-tells z fair k Network f s w.out t room u p eu e in
         ap (λ (x : List ℕ). leaving (turned_down 9) (record { lists = w.lists; out = x })) m.1
         ∙ sym (ap (λ (x : Verdict). admitted f s w x q) m.0)
+
+  -- ---- 8: the sender's row is looked for once, and floor and row go by it
+
+  module _ (m i : ℕ) (w : Lent) (below : s.counter ≡ top → ⊥) where
+    pub under-heard : (r : ℕ) → row_of m w.lists i s.sender ≡ Some r → opened_heard z k r f s w ≡ opened_under z m k i f s w
+    unfolding opened_heard opened_under floor_of row_for
+    under-heard r e = simp (ne_eqb _ _ below, e)
+
+    pub under-new : row_of m w.lists i s.sender ≡ None
+        → admitted f s w (message_of z k f s) (row_of m w.lists i 0) ≡ opened_under z m k i f s w
+    unfolding opened_under floor_of row_for
+    under-new e = simp (ne_eqb _ _ below, e, le-ltb s.counter 0 (omega arith))
 
 -- the row that was found is one that the list has
 pub row-there : (m : ℕ) (w : Lists) (i a r : ℕ) → row_for m w i a ≡ Some r → r < length w.addrs

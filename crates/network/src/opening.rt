@@ -31,9 +31,8 @@ fn admit(
     requires r_in_bounds { (r < length addrs.old) × (r < length floors.old) }
     ensures { leaving (told_opened result) (lent addrs.new floors.new out.new) ≡ admitted x.entry.frame.now x.entry.secured (lent addrs.old floors.old out.old) (message_of ours (the_key key) x.entry.frame.now x.entry.secured) (Some r) }
 {
-    let length = seals::unseal(key, Layer::Network, x.frame, x.secured, out).ok_or(
-        Refusal::Forged,
-    )?;
+    let plain = seals::unseal(key, Layer::Network, x.frame, x.secured, out);
+    let length = plain.ok_or(Refusal::Forged)?;
     addrs[r] = x.secured.sender;
     floors[r] = x.secured.counter + 1;
     Ok(Opened {

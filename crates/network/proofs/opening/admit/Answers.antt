@@ -12,7 +12,7 @@ returns-in_err-length c =
     let y = c.args in
     let w = lent y.addrs.now y.floors.now y.out.now in
     let h = admit-forged ours (the_key y.key) y.x.frame.now y.x.secured ours-fair w c.args.x.fits c.requires.room _ (Some y.r) _
-    c.in_err-length.ensures.ok_part c.unseal.ensures in
+    c.in_err-length.ensures.ok_part c.unseal-plain.ensures in
     search rules
 
 pub returns : goal.returns
@@ -20,4 +20,4 @@ returns c =
     let y = c.args in
     let w = lent y.addrs.now y.floors.now y.out.now in
     admit-plain ours (the_key y.key) y.x.frame.now y.x.secured ours-fair w c.args.x.fits c.requires.room _
-    c.in_ok-length.length y.r _ c.in_ok-length.ensures.ok_part c.unseal.ensures
+    c.in_ok-length.length y.r _ c.in_ok-length.ensures.ok_part c.unseal-plain.ensures
