@@ -2,7 +2,7 @@
 use crate::desk::{Bench, laid};
 use crate::requests::Field;
 use commands::{Command, Requested, Transported};
-use lines::{Answer, Octets, lent_of, numbers, protection_of, refused};
+use lines::{Answer, lent_of, numbers, protection_of, refused};
 
 pub(crate) fn read(line: &[u8]) -> Option<Answer> {
     let [_, protection, ..] = numbers(line, b".TF")?;
@@ -90,8 +90,8 @@ impl Bench {
         };
         let form = form_of(text::field(line, 2))?;
         let command = command_of(text::field(line, 2), numbers(line, form)?)?;
-        let secret: Octets<256> = Octets::of(line, form, b"kh")?;
-        let rest: Octets<256> = Octets::of(line, form, b"ti")?;
+        let secret = Field::of(line, form, b"kh")?;
+        let rest = Field::of(line, form, b"ti")?;
         let mut out = [0; 256];
         let room = lent_of(self.room, &out);
         let wrote = commands::write_command(
