@@ -1,12 +1,12 @@
 // APS commands, read and written.
-use crate::desk::{Bench, done, laid};
-use crate::read::{frame_at, numbers, protection_of};
+use crate::desk::{Bench, laid};
+use crate::requests::Field;
 use commands::{Command, Requested, Transported};
-use lines::{Answer, Octets, lent_of, refused};
+use lines::{Answer, lent_of, numbers, protection_of, refused};
 
 pub(crate) fn read(line: &[u8]) -> Option<Answer> {
     let [_, protection, ..] = numbers(line, b".TF")?;
-    let frame = frame_at(line, 2)?;
+    let frame = Field::at(line, 2)?;
     let protection = protection_of(protection);
     Some(match commands::read_command(frame.as_slice(), protection) {
         Ok(command) => told(command, frame.as_slice(), protection),
@@ -70,15 +70,15 @@ fn transported(t: Transported, key: &[u8], tlvs: &[u8]) -> Answer {
 }
 
 fn word(w: &[u8]) -> Answer {
-    done().word(w)
+    Answer::done().word(w)
 }
 
 pub(crate) fn tlv(line: &[u8]) -> Option<Answer> {
     let [_, protection, tag, ..] = numbers(line, b".TBF")?;
-    let frame = frame_at(line, 3)?;
+    let frame = Field::at(line, 3)?;
     let tag = u8::try_from(tag).ok()?;
     let found = commands::value_of(frame.as_slice(), protection_of(protection), tag);
-    Some(done().hex(found))
+    Some(Answer::done().hex(found))
 }
 
 impl Bench {
@@ -90,8 +90,8 @@ impl Bench {
         };
         let form = form_of(text::field(line, 2))?;
         let command = command_of(text::field(line, 2), numbers(line, form)?)?;
-        let secret: Octets<256> = Octets::of(line, form, b"kh")?;
-        let rest: Octets<256> = Octets::of(line, form, b"ti")?;
+        let secret = Field::of(line, form, b"kh")?;
+        let rest = Field::of(line, form, b"ti")?;
         let mut out = [0; 256];
         let room = lent_of(self.room, &out);
         let wrote = commands::write_command(

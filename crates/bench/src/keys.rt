@@ -1,8 +1,7 @@
 // The requests that change keys, two of which are lent the lists, and the mark, moved ahead by the two
 // lines of a step.
-use crate::desk::{Bench, done, told};
-use crate::read::{key_at, numbers};
-use lines::Answer;
+use crate::desk::Bench;
+use lines::{Answer, array_of, numbers, told};
 
 impl Bench {
     pub(crate) fn network(&mut self, line: &[u8]) -> Option<Answer> {
@@ -10,7 +9,14 @@ impl Bench {
         let number = u8::try_from(number).ok()?;
         let board = self.board?;
         let (addrs, floors) = self.lists.lent();
-        let after = board::install(board, addrs, floors, slot as usize, number, key_at(line, 3));
+        let after = board::install(
+            board,
+            addrs,
+            floors,
+            slot as usize,
+            number,
+            array_of(text::field(line, 3)),
+        );
         Some(told(self.left(after)))
     }
 
@@ -22,7 +28,7 @@ impl Bench {
 
     pub(crate) fn link(&mut self, line: &[u8]) -> Option<Answer> {
         let [_, partner, ..] = numbers(line, b".AK")?;
-        let after = board::add_link(self.board?, partner, key_at(line, 2));
+        let after = board::add_link(self.board?, partner, array_of(text::field(line, 2)));
         Some(told(self.left(after)))
     }
 
@@ -42,7 +48,7 @@ impl Bench {
     pub(crate) fn mark(&self, line: &[u8]) -> Option<Answer> {
         numbers(line, b".")?;
         let mark = board::next_mark(self.board?);
-        Some(done().decimal(mark as u64))
+        Some(Answer::done().decimal(mark as u64))
     }
 
     pub(crate) fn marked(&mut self, line: &[u8]) -> Option<Answer> {

@@ -12,7 +12,6 @@ mod keys;
 mod label_lines;
 mod making;
 mod opening;
-mod read;
 mod requests;
 mod routing;
 mod sealing;

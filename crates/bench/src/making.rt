@@ -1,7 +1,6 @@
 // The board made, and what is lent.
-use crate::desk::{Bench, Lists, done, told};
-use crate::read::numbers;
-use lines::Answer;
+use crate::desk::Bench;
+use lines::{Answer, Lists, numbers, told};
 
 impl Bench {
     // A board with fresh lists, of which as much is lent as before. A refused board is not taken: the
@@ -25,6 +24,6 @@ impl Bench {
         self.room = room as usize;
         self.lists.rows = rows as usize;
         self.lists.tops = tops as usize;
-        Some(done())
+        Some(Answer::done())
     }
 }

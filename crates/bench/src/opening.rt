@@ -1,13 +1,13 @@
 // Frames opened, at both layers.
-use crate::desk::{Bench, done};
-use crate::read::{frame_at, numbers};
+use crate::desk::Bench;
+use crate::requests::Field;
 use answers::{Opened, Refusal};
-use lines::{Answer, lent_of, refused};
+use lines::{Answer, lent_of, numbers, refused};
 
 impl Bench {
     pub(crate) fn open(&mut self, line: &[u8]) -> Option<Answer> {
         numbers(line, b".F")?;
-        let frame = frame_at(line, 1)?;
+        let frame = Field::at(line, 1)?;
         let board = self.board?;
         let mut out = [0; 256];
         let room = lent_of(self.room, &out);
@@ -20,7 +20,7 @@ impl Bench {
     // A refusal leaves the board as it was, so that the one before is the one to look with.
     pub(crate) fn open_aps(&mut self, line: &[u8]) -> Option<Answer> {
         let [_, given, ..] = numbers(line, b".AF")?;
-        let frame = frame_at(line, 2)?;
+        let frame = Field::at(line, 2)?;
         let board = self.board?;
         let mut out = [0; 256];
         let room = lent_of(self.room, &out);
@@ -36,7 +36,7 @@ fn told<F: FnOnce() -> bool>(found: Result<Opened, Refusal>, out: &[u8], look: F
 {
     match found {
         Ok(opened) => {
-            let sender = done().address(opened.sender);
+            let sender = Answer::done().address(opened.sender);
             let protection = match opened.protection {
                 None => sender.word(b"none"),
                 Some(k) => sender.decimal(k as u64),

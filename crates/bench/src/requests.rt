@@ -2,17 +2,13 @@
 // form, or asks for a board before there is one.
 use crate::desk::Bench;
 use crate::{command_lines, hashes, label_lines, routing};
-use lines::{Answer, Desk};
+use lines::{Answer, Desk, Octets};
+
+// The octets of a field of kind F: 256 of them at most.
+pub(crate) type Field = Octets<256>;
 
 impl Desk for Bench {
-    fn answer(&mut self, long: bool, line: &[u8]) -> Answer {
-        let answer = if long { None } else { self.answer_to(line) };
-        answer.unwrap_or_else(|| Answer::first(b"bad"))
-    }
-}
-
-impl Bench {
-    fn answer_to(&mut self, line: &[u8]) -> Option<Answer> {
+    fn answer(&mut self, line: &[u8]) -> Option<Answer> {
         match text::field(line, 0) {
             b"network" => self.network(line),
             b"switch" => self.switch(line),

@@ -1,12 +1,12 @@
 // Frames sealed, at both layers.
 use crate::desk::{Bench, laid};
-use crate::read::{frame_at, numbers};
-use lines::{Answer, lent_of};
+use crate::requests::Field;
+use lines::{Answer, lent_of, numbers};
 
 impl Bench {
     pub(crate) fn seal(&mut self, line: &[u8]) -> Option<Answer> {
         numbers(line, b".F")?;
-        let frame = frame_at(line, 1)?;
+        let frame = Field::at(line, 1)?;
         let mut out = [0; 256];
         let room = lent_of(self.room, &out);
         let sent = network::seal_frame(self.board?, frame.as_slice(), &mut out[..room]);
@@ -16,7 +16,7 @@ impl Bench {
     pub(crate) fn seal_aps(&mut self, line: &[u8]) -> Option<Answer> {
         let [_, partner, identifier, ..] = numbers(line, b".ABF")?;
         let identifier = u8::try_from(identifier).ok()?;
-        let frame = frame_at(line, 3)?;
+        let frame = Field::at(line, 3)?;
         let mut out = [0; 256];
         let room = lent_of(self.room, &out);
         let board = self.board?;

@@ -1,14 +1,13 @@
 // What a board holds.
-use crate::desk::{Bench, done};
-use crate::read::numbers;
+use crate::desk::Bench;
 use answers::Refusal;
-use lines::{Answer, refused};
+use lines::{Answer, numbers, refused};
 
 impl Bench {
     pub(crate) fn state(&self, line: &[u8]) -> Option<Answer> {
         numbers(line, b".")?;
         let board = self.board?;
-        let counters = done()
+        let counters = Answer::done()
             .decimal(board.outgoing as u64)
             .decimal(board.aps as u64);
         let active = match board.active {
@@ -21,7 +20,7 @@ impl Bench {
     pub(crate) fn links(&self, line: &[u8]) -> Option<Answer> {
         numbers(line, b".")?;
         let board = self.board?;
-        let mut a = done();
+        let mut a = Answer::done();
         for (i, link) in board.links.iter().enumerate() {
             if link.present {
                 a = entry(a, i, link.partner, link.floor);
@@ -45,7 +44,7 @@ impl Bench {
         }
         let half = addrs.len() / 2;
         let rows = addrs.iter().zip(floors.iter()).enumerate();
-        let mut a = done();
+        let mut a = Answer::done();
         for (r, (&sender, &floor)) in rows.skip(slot as usize * half).take(half) {
             if sender != 0 {
                 a = entry(a, r, sender, floor);

@@ -10,6 +10,13 @@ use Rattle.lines.specs.declared.buffer.Octets.{Octets}
 abbrev pub room : ℕ
 room = 33860
 
+-- the words `ok` and `bad`
+abbrev pub ok : List ℕ
+ok = 111 ∷ 107 ∷ []
+
+abbrev pub bad : List ℕ
+bad = 98 ∷ 97 ∷ 100 ∷ []
+
 -- s behind l in a room of n octets; what has no room is left out whole
 unfoldable pub more : ℕ → List ℕ → List ℕ → List ℕ
 more n l s = if nat_le (length l + length s) n then l ++ s else l

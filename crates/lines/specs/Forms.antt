@@ -1,10 +1,11 @@
 -- A line's form has a letter for each of its fields. The bench language: "`bad`: the line is not one of those below, a field is
 -- malformed or beyond its range".
 -- Assumes nothing.
-use Rattle.std.specs.Prelude.{ℕ, ◌+◌, ◌*◌, ◌/◌, Bool, List, length, ◌==◌, Option, unwrap_or}
+use Rattle.std.specs.Prelude.{ℕ, ◌+◌, ◌*◌, ◌/◌, Bool, List, length, ◌==◌, Option, Some, None, unwrap_or}
+use Rattle.std.specs.Prelude.{if◌then◌else◌}
 use Rattle.std.specs.List.{find, list_all, list_any, position_or_len, range_with_len}
 use Rattle.octets.specs.Choice.{both}
-use Rattle.octets.specs.Lists.{at, eq_list}
+use Rattle.octets.specs.Lists.{at, eq_list, tab}
 use Rattle.text.specs.Fields.{fields, field_at}
 use Rattle.lines.specs.Kinds.{field_kind, value_of, good, worth}
 
@@ -27,6 +28,10 @@ row_of t l k = unwrap_or (find (λ r. is_row t l k r) (range_with_len 0 (fields 
 -- what field i is worth
 unfoldable pub worth_at : List ℕ → List ℕ → ℕ → ℕ
 worth_at l f i = worth (value_at l f i)
+
+-- what each of its first eight fields is worth, where line l has form f
+abbrev pub numbers : List ℕ → List ℕ → Option (List ℕ)
+numbers l f = if has_form l f then Some (tab 8 (worth_at l f)) else None
 
 -- c is one of these letters
 abbrev pub among : ℕ → List ℕ → Bool

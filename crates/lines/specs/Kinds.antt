@@ -3,7 +3,7 @@
 -- no leading zero. T is `none` or B." "X any octets but tabs, at most 256 of them for a label; G hex of 0 to 1,024 octets."
 -- Of a command: "Keys, hashes, inner frames and TLVs are of kind F"; their letters are k, h, i and t.
 -- Assumes nothing.
-use Rattle.std.specs.Prelude.{ℕ, ◌/◌, ◌%◌, Bool, List, [], ◌∷◌, length, ◌==◌, nat_le, Option, Some, None, is_some, unwrap_or}
+use Rattle.std.specs.Prelude.{ℕ, ◌/◌, ◌%◌, Bool, List, [], ◌∷◌, length, ◌==◌, nat_le, nat_lt, Option, Some, None, is_some, unwrap_or}
 use Rattle.std.specs.Prelude.{if◌then◌else◌}
 use Rattle.octets.specs.Choice.{both}
 use Rattle.octets.specs.Lists.{eq_list}
@@ -50,6 +50,10 @@ value_of (kinds.Decimal most) l = number_of l most
 value_of kinds.Protection l = if eq_list l none then Some 256 else number_of l 255
 value_of (kinds.Hex least most) l = if whole_hex l then between least most (length l / 2) else None
 value_of (kinds.Text least most) l = between least most (length l)
+
+-- the protection that is told as t: what is above an octet stands for none
+abbrev pub protection_of : ℕ → Option ℕ
+protection_of t = if nat_lt t 256 then Some t else None
 
 -- a field is good where it has a value
 abbrev pub good : Option ℕ → Bool

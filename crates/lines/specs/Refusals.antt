@@ -2,12 +2,13 @@
 -- 3 `short`, 4 `form`, 5 `security`, 6 `nokey`, 7 `top`, 8 `stale`, 9 `forged`, 10 `full`, 11 `command`, 12 `protection`,
 -- 13 `absent`, 14 `argument`." "New words: 15 `label`, 16 `crc`, 17 `mark`". A tab is the octet 9.
 -- Assumes nothing.
-use Rattle.std.specs.Prelude.{ℕ, List, [], ◌∷◌, ◌++◌}
+use Rattle.std.specs.Prelude.{ℕ, List, [], ◌∷◌, ◌++◌, ⊤, Result, Ok, Err}
 use Rattle.answers.specs.Numbers.{number_of}
 use Rattle.answers.specs.declared.Refusal.{Refusal}
 use Rattle.answers.specs.declared.Refusal.TheVariants.{Room, Long, Short, Form, Security, NoKey, Top, Stale, Forged, Full}
 use Rattle.answers.specs.declared.Refusal.TheVariants.{Command, Protection, Absent, Argument, Label, Crc, Mark}
 use Rattle.text.specs.Decimal.{decimal}
+use Rattle.lines.specs.Answer.{ok}
 
 -- the word `refused`
 abbrev pub refused_word : List ℕ
@@ -36,3 +37,8 @@ word_of Mark = 109 ∷ 97 ∷ 114 ∷ 107 ∷ []
 -- the answer that refuses: `refused`, the number and the word, a tab before each
 unfoldable pub refusal : Refusal → List ℕ
 refusal r = refused_word ++ (9 ∷ decimal (number_of r)) ++ (9 ∷ word_of r)
+
+-- what is told of a request that was done, or refused
+abbrev pub told : Result ⊤ Refusal → List ℕ
+told (Ok x) = ok
+told (Err r) = refusal r

@@ -2,7 +2,7 @@
 ghost use Rattle.std.specs.Prelude.{◌≡◌, []};
 ghost use Rattle.text.specs.Decimal.{decimal as spelt};
 ghost use Rattle.text.specs.Hex.{hex_of, address as addressed};
-ghost use Rattle.lines.specs.Answer.{room, said, written, more, field, whole_line};
+ghost use Rattle.lines.specs.Answer.{room, ok, bad, said, written, more, field, whole_line};
 
 use crate::buffer::Octets;
 
@@ -25,6 +25,22 @@ impl Answer {
         ensures { said result ≡ more room [] word.now }
     {
         Octets::new().with(word)
+    }
+
+    // The answer to a request that was done: what it has to tell comes behind.
+    #[tactic(auto, unfolding(crate::specs::Answer::more))]
+    pub fn done() -> Self
+        ensures { said result ≡ ok }
+    {
+        Answer::first(b"ok")
+    }
+
+    // The answer to a line that is no request.
+    #[tactic(auto, unfolding(crate::specs::Answer::more))]
+    pub fn bad() -> Self
+        ensures { said result ≡ bad }
+    {
+        Answer::first(b"bad")
     }
 
     // A field more, behind a tab. What has no room is left out.

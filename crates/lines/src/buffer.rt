@@ -39,11 +39,18 @@ impl<const N: usize> Octets<N> {
         Some(Octets { n, octets })
     }
 
+    // Those of field i of the line, counted from 0.
+    pub fn at(line: &[u8], i: usize) -> Option<Self>
+        ensures { option_map said result ≡ hexed N (field_at line.now i) }
+    {
+        Octets::from_hex(text::field(line, i))
+    }
+
     // Those of the line's first field whose letter in its form is one of these.
     pub fn of(line: &[u8], form: &[u8], letters: &[u8]) -> Option<Self>
         ensures { option_map said result ≡ hexed N (field_at line.now (place_of form.now letters.now)) }
     {
-        Octets::from_hex(text::field(line, place_of(form, letters)))
+        Octets::at(line, place_of(form, letters))
     }
 
     pub fn as_slice(&self) -> &[u8]

@@ -4,8 +4,8 @@ ghost use Rattle.std.specs.List.{find, list_all, range_with_len};
 ghost use Rattle.octets.specs.Lists.{tab};
 ghost use Rattle.text.specs.Fields.{field_at};
 ghost use Rattle.text.specs.Hex.{read_into, unhexed};
-ghost use Rattle.lines.specs.Kinds.{field_kind, between, value_of, good};
-ghost use Rattle.lines.specs.Forms.{value_at, has_form, is_row, row_of, worth_at, among, place_of};
+ghost use Rattle.lines.specs.Kinds.{field_kind, between, value_of, good, protection_of};
+ghost use Rattle.lines.specs.Forms.{value_at, has_form, is_row, row_of, worth_at, numbers, among, place_of};
 ghost use Rattle.lines.specs.declared.forms.Kind.TheVariants as kinds;
 
 use std::array;
@@ -79,6 +79,13 @@ fn protection_value(s: &[u8]) -> Option<u64>
     decimal_value(s, 255)
 }
 
+// The protection that a field of that kind is worth: 256 stands for none, and so does any number above it.
+pub fn protection_of(worth: u64) -> Option<u8>
+    ensures { result ≡ protection_of worth }
+{
+    u8::try_from(worth).ok()
+}
+
 #[tactic(auto, using(octets::proofs::Choices::tests), unfolding(crate::specs::Kinds::value_of))]
 fn hex_value(s: &[u8], least: usize, most: usize) -> Option<u64>
     ensures { result ≡ value_of (kinds.Hex least most) s.now }
@@ -112,6 +119,16 @@ fn are_good(line: &[u8], form: &[u8]) -> bool
     ensures { result ≡ list_all (λ i. good (value_at line.now form.now i)) (range_with_len 0 (length form.now)) }
 {
     (0..form.len()).all(|i| value_at(line, form, i).is_some())
+}
+
+// The numbers of a line that has that form, each at its field's place; nothing for any other line.
+pub fn numbers(line: &[u8], form: &[u8]) -> Option<[u64; 8]>
+    ensures { result ≡ numbers line.now form.now }
+{
+    if !has_form(line, form) {
+        return None;
+    }
+    Some(numbers_of(line, form))
 }
 
 // The row of a table that the line is, by its number. A row is two fields of the table: a word, which

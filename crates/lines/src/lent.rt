@@ -9,3 +9,51 @@ pub fn lent_of<T>(lent: usize, list: &[T]) -> usize
 {
     lent.min(list.len())
 }
+
+// The two lists of heard senders, of N rows each, and how many rows of each are lent.
+#[derive(Clone, Copy)]
+pub struct Lists<const N: usize> {
+    pub addrs: [u64; N],
+    pub floors: [u32; N],
+    pub rows: usize,
+    pub tops: usize,
+}
+
+impl<const N: usize> Lists<N> {
+    ghost use Rattle.std.specs.Prelude.{replicate};
+
+    // Fresh lists, of which so many rows are lent.
+    pub fn new(rows: usize, tops: usize) -> Self
+        ensures addrs { result.addrs ≡ replicate N 0 }
+        ensures floors { result.floors ≡ replicate N 0 }
+        ensures lent { (result.rows ≡ rows) × (result.tops ≡ tops) }
+    {
+        Lists {
+            addrs: [0; N],
+            floors: [0; N],
+            rows,
+            tops,
+        }
+    }
+
+    // The rows that are lent, and no more than there are. No clause says what becomes of the lists behind
+    // the two: that is what the borrower writes there.
+    pub fn lent(&mut self) -> (&mut [u64], &mut [u32])
+        ensures addrs { result.0.now ≡ take self.old.rows self.old.addrs }
+        ensures floors { result.1.now ≡ take self.old.tops self.old.floors }
+    {
+        let rows = self.rows;
+        let tops = self.tops;
+        (
+            front_of(&mut self.addrs, rows),
+            front_of(&mut self.floors, tops),
+        )
+    }
+}
+
+// The first n elements of the list, or all of it where it has fewer.
+fn front_of<T, const N: usize>(list: &mut [T; N], n: usize) -> &mut [T]
+    ensures { result.now ≡ take n list.old }
+{
+    &mut list[..n.min(N)]
+}

@@ -16,9 +16,11 @@ mod running;
 
 pub use answer::{Answer, Whole};
 pub use buffer::{Octets, array_of};
-pub use forms::{Kind, has_form, kind_of, numbers_of, octets_by, row_of, value_of};
-pub use lent::lent_of;
+pub use forms::{
+    Kind, has_form, kind_of, numbers, numbers_of, octets_by, protection_of, row_of, value_of,
+};
+pub use lent::{Lists, lent_of};
 pub use reader::Reader;
 pub use reading::{Line, Stop, is_silent};
-pub use refusals::refused;
+pub use refusals::{refused, told};
 pub use running::{Desk, run};

@@ -1,7 +1,7 @@
-// The answer that refuses, in the words of the bench language.
+// The answer that refuses, in the words of the bench language, and the one of a request that has nothing to tell.
 ghost use Rattle.std.specs.Prelude.{◌≡◌};
 ghost use Rattle.lines.specs.Answer.{said};
-ghost use Rattle.lines.specs.Refusals.{refusal};
+ghost use Rattle.lines.specs.Refusals.{refusal, told};
 
 use crate::answer::Answer;
 use answers::Refusal;
@@ -18,4 +18,14 @@ pub fn refused(why: Refusal) -> Answer
         usize::from(n),
     );
     Answer::first(b"refused").decimal(u64::from(n)).word(word)
+}
+
+// What comes of a request that tells nothing but that it was done, or why it was refused.
+pub fn told(outcome: Result<(), Refusal>) -> Answer
+    ensures { said result ≡ told outcome }
+{
+    match outcome {
+        Ok(()) => Answer::done(),
+        Err(why) => refused(why),
+    }
 }

@@ -7,8 +7,8 @@ use std::io::{Read, Write};
 
 // What answers the lines, and what stays from one to the next.
 pub trait Desk {
-    // The answer to a line, of which only the octets that there is room for are told where it is too long.
-    fn answer(&mut self, long: bool, line: &[u8]) -> Answer;
+    // The answer to a line; none where it is no request.
+    fn answer(&mut self, line: &[u8]) -> Option<Answer>;
 }
 
 // Answers each line as soon as it has ended, so that it stays in step with a writer that waits for each answer.
@@ -47,7 +47,7 @@ fn read_on<R: Read>(
 }
 
 // Answers a line that has ended, by its line feed or with the input. An empty line has no answer, nor has the
-// nothing behind the last line feed.
+// nothing behind the last line feed. `bad` is a line that is no request, and one that there is no room for.
 fn answer_line<W: Write, D: Desk>(
     output: &mut W,
     reader: Reader,
@@ -59,6 +59,7 @@ fn answer_line<W: Write, D: Desk>(
     if !reader.is_due() || is_silent(there) {
         return Ok(());
     }
-    let answer = desk.answer(read.long, there);
-    output.write_all(answer.whole_line(reader.number).as_slice())
+    let answer = if read.long { None } else { desk.answer(there) };
+    let told = answer.unwrap_or_else(|| Answer::bad());
+    output.write_all(told.whole_line(reader.number).as_slice())
 }

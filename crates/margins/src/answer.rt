@@ -2,14 +2,10 @@
 use answers::{Opened, Refusal};
 use lines::{Answer, refused};
 
-pub(crate) fn done() -> Answer {
-    Answer::first(b"ok")
-}
-
 // How many octets were made.
 pub(crate) fn counted(made: Result<usize, Refusal>) -> Answer {
     match made {
-        Ok(n) => done().decimal(n as u64),
+        Ok(n) => Answer::done().decimal(n as u64),
         Err(why) => refused(why),
     }
 }
@@ -17,7 +13,9 @@ pub(crate) fn counted(made: Result<usize, Refusal>) -> Answer {
 pub(crate) fn opened(found: Result<Opened, Refusal>) -> Answer {
     match found {
         Ok(opened) => {
-            let sender = done().decimal(opened.length as u64).address(opened.sender);
+            let sender = Answer::done()
+                .decimal(opened.length as u64)
+                .address(opened.sender);
             match opened.protection {
                 None => sender.word(b"none"),
                 Some(k) => sender.decimal(k as u64),

@@ -1,25 +1,24 @@
 // The hash and the keyed hash, with the octets that a refusal answers.
-use crate::answer::done;
 use crate::lent::key_from;
-use crate::read::{numbers, octets_at};
+use crate::requests::Field;
 use answers::Refusal;
 use cipher::Fault;
-use lines::{Answer, refused};
+use lines::{Answer, numbers, refused};
 
 pub(crate) fn hash(line: &[u8]) -> Option<Answer> {
     numbers(line, b".G")?;
-    Some(told(cipher::hash(octets_at(line, 1)?.as_slice())))
+    Some(told(cipher::hash(Field::at(line, 1)?.as_slice())))
 }
 
 pub(crate) fn keyed_hash(line: &[u8]) -> Option<Answer> {
     numbers(line, b".G")?;
-    Some(told(cipher::keyed_hash(key_from(0x20), octets_at(line, 1)?.as_slice())))
+    Some(told(cipher::keyed_hash(key_from(0x20), Field::at(line, 1)?.as_slice())))
 }
 
 // The only fault that hashing has is an input that is too long; zeros are told for the hash then.
 fn told(hash: Result<[u8; 16], Fault>) -> Answer {
     match hash {
-        Ok(block) => done().hex(&block),
+        Ok(block) => Answer::done().hex(&block),
         Err(_) => refused(Refusal::Long).hex(&[0; 16]),
     }
 }

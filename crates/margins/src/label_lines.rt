@@ -1,12 +1,12 @@
 // Labels printed, with the whole output, and read, with the octets that a refusal answers.
-use crate::answer::{counted, done};
+use crate::answer::counted;
 use crate::lent::Output;
-use crate::read::{numbers, octets_at};
-use lines::{Answer, refused};
+use crate::requests::Field;
+use lines::{Answer, numbers, refused};
 
 pub(crate) fn print(line: &[u8]) -> Option<Answer> {
     let [_, room, ..] = numbers(line, b".SG")?;
-    let code = octets_at(line, 2)?;
+    let code = Field::at(line, 2)?;
     let mut out = Output::new(room)?;
     let printed = labels::print_label(code.as_slice(), out.lent());
     Some(counted(printed).hex(out.as_slice()))
@@ -15,8 +15,8 @@ pub(crate) fn print(line: &[u8]) -> Option<Answer> {
 // A refusal leaves no code and no key, for which zeros are told.
 pub(crate) fn label(line: &[u8]) -> Option<Answer> {
     numbers(line, b".G")?;
-    Some(match labels::read_label(octets_at(line, 1)?.as_slice()) {
-        Ok(label) => done()
+    Some(match labels::read_label(Field::at(line, 1)?.as_slice()) {
+        Ok(label) => Answer::done()
             .decimal(label.length as u64)
             .hex(&label.code)
             .hex(&label.key),

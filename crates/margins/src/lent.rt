@@ -1,5 +1,6 @@
 // What every line is lent, made anew for it.
 use board::{Board, Link, Slot};
+use lines::{Lists, lent_of};
 use std::array;
 
 // An output of octets EE, of which a line is lent the first.
@@ -22,8 +23,8 @@ impl Output {
     }
 
     pub(crate) fn lent(&mut self) -> &mut [u8] {
-        let room = self.room;
-        front_of(&mut self.octets, room)
+        let room = lent_of(self.room, &self.octets);
+        &mut self.octets[..room]
     }
 
     pub(crate) fn as_slice(&self) -> &[u8] {
@@ -31,35 +32,18 @@ impl Output {
     }
 }
 
-fn front_of<T, const N: usize>(list: &mut [T; N], n: usize) -> &mut [T] {
-    &mut list[..n.min(N)]
-}
-
-// The two lists of heard senders, of which a line is lent the first rows.
-#[derive(Clone, Copy)]
-pub struct Lists {
-    pub addrs: [u64; 1026],
-    pub floors: [u32; 1026],
-}
-
-impl Lists {
-    // Row 0 is used, and all rows of slot 1 are, which start at half; so are those behind them.
-    pub(crate) fn made(half: usize) -> Lists {
-        let mut lists = Lists {
-            addrs: array::from_fn(|r| if r < half { 0 } else { 0xc00 + r as u64 }),
-            floors: array::from_fn(|r| if r < half { 0 } else { 1 }),
-        };
-        lists.addrs[0] = 0xb1;
-        lists.floors[0] = 100;
-        lists
-    }
-
-    pub(crate) fn lent(&mut self, rows: usize, tops: usize) -> (&mut [u64], &mut [u32]) {
-        (
-            front_of(&mut self.addrs, rows),
-            front_of(&mut self.floors, tops),
-        )
-    }
+// Lists in which row 0 is used, and all rows of slot 1 are, which start at half; so are those behind them.
+pub(crate) fn made_lists(rows: usize, tops: usize) -> Lists<1026> {
+    let half = rows / 2;
+    let mut lists = Lists {
+        addrs: array::from_fn(|r| if r < half { 0 } else { 0xc00 + r as u64 }),
+        floors: array::from_fn(|r| if r < half { 0 } else { 1 }),
+        rows,
+        tops,
+    };
+    lists.addrs[0] = 0xb1;
+    lists.floors[0] = 100;
+    lists
 }
 
 // One frame can be sealed, and no more.

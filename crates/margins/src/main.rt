@@ -11,7 +11,6 @@ mod label_lines;
 mod lent;
 mod opening;
 mod parts;
-mod read;
 mod requests;
 mod sealing;
 mod writing;

@@ -1,12 +1,12 @@
 // Frames opened, at both layers, and what that leaves.
 use crate::answer::opened;
-use crate::lent::{Lists, Output, made_board};
-use crate::read::{numbers, octets_at};
-use lines::Answer;
+use crate::lent::{Output, made_board, made_lists};
+use crate::requests::Field;
+use lines::{Answer, Lists, numbers};
 
 pub(crate) fn open(line: &[u8]) -> Option<Answer> {
     let [_, room, ..] = numbers(line, b".SG")?;
-    open_in(room, 64, 64, octets_at(line, 2)?.as_slice())
+    open_in(room, 64, 64, Field::at(line, 2)?.as_slice())
 }
 
 // A list has no more rows than are stored.
@@ -19,22 +19,22 @@ pub(crate) fn hall(line: &[u8]) -> Option<Answer> {
         room,
         rows as usize,
         tops as usize,
-        octets_at(line, 4)?.as_slice(),
+        Field::at(line, 4)?.as_slice(),
     )
 }
 
 fn open_in(room: u64, rows: usize, tops: usize, frame: &[u8]) -> Option<Answer> {
     let mut out = Output::new(room)?;
-    let made = Lists::made(rows / 2);
+    let made = made_lists(rows, tops);
     let mut lists = made;
-    let (addrs, floors) = lists.lent(rows, tops);
+    let (addrs, floors) = lists.lent();
     let found = network::open_frame(made_board(), frame, addrs, floors, out.lent());
     let a = opened(found).hex(out.as_slice());
     Some(changed_rows(a, &made, &lists))
 }
 
 // Of all rows, lent or not, those that are not as they were.
-fn changed_rows(a: Answer, before: &Lists, after: &Lists) -> Answer {
+fn changed_rows<const N: usize>(a: Answer, before: &Lists<N>, after: &Lists<N>) -> Answer {
     let mut told = a;
     let was = before.addrs.iter().zip(&before.floors);
     let is = after.addrs.iter().zip(&after.floors);
@@ -49,7 +49,7 @@ fn changed_rows(a: Answer, before: &Lists, after: &Lists) -> Answer {
 // Behind the output stand the floors of the two link entries that are there.
 pub(crate) fn open_aps(line: &[u8]) -> Option<Answer> {
     let [_, room, given, ..] = numbers(line, b".SAG")?;
-    let frame = octets_at(line, 3)?;
+    let frame = Field::at(line, 3)?;
     let mut out = Output::new(room)?;
     let received = aps::open_frame(made_board(), frame.as_slice(), given, out.lent());
     let [first, second, ..] = received.board.links;

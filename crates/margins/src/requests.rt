@@ -2,45 +2,43 @@
 // form.
 use crate::parts::{part, value};
 use crate::{hashes, label_lines, opening, sealing, writing};
-use lines::{Answer, Desk};
+use lines::{Answer, Desk, Octets};
 use router::Portion;
+
+// The octets of a field of kind F of docs/MARGINS.md, of the 512 that there is room for; its letter in a form is G.
+pub(crate) type Field = Octets<512>;
 
 // Nothing stays from line to line.
 #[derive(Drop)]
 pub struct Margins;
 
 impl Desk for Margins {
-    fn answer(&mut self, long: bool, line: &[u8]) -> Answer {
-        let answer = if long { None } else { answer_to(line) };
-        answer.unwrap_or_else(|| Answer::first(b"bad"))
-    }
-}
-
-fn answer_to(line: &[u8]) -> Option<Answer> {
-    match text::field(line, 0) {
-        b"open" => opening::open(line),
-        b"openaps" => opening::open_aps(line),
-        b"hall" => opening::hall(line),
-        b"seal" => sealing::seal(line),
-        b"sealaps" => sealing::seal_aps(line),
-        b"sealat" => sealing::seal_at(line),
-        b"sealapsat" => sealing::seal_aps_at(line),
-        b"remove" => writing::remove(line),
-        b"tunnel" => writing::tunnel(line),
-        b"down" => writing::down(line),
-        b"hash" => hashes::hash(line),
-        b"keyedhash" => hashes::keyed_hash(line),
-        b"print" => label_lines::print(line),
-        b"label" => label_lines::label(line),
-        b"key" => part(line, |f, k| commands::key_of(f, k)),
-        b"digest" => part(line, |f, k| commands::hash_of(f, k)),
-        b"inner" => part(line, |f, k| commands::inner_of(f, k)),
-        b"tlvs" => part(line, |f, k| commands::tlvs_of(f, k)),
-        b"value" => value(line),
-        b"header" => part(line, |f, k| router::portion_of(f, k, Portion::Header)),
-        b"auxiliary" => part(line, |f, k| router::portion_of(f, k, Portion::Auxiliary)),
-        b"payload" => part(line, |f, k| router::portion_of(f, k, Portion::Payload)),
-        b"tag" => part(line, |f, k| router::portion_of(f, k, Portion::Tag)),
-        _ => None,
+    fn answer(&mut self, line: &[u8]) -> Option<Answer> {
+        match text::field(line, 0) {
+            b"open" => opening::open(line),
+            b"openaps" => opening::open_aps(line),
+            b"hall" => opening::hall(line),
+            b"seal" => sealing::seal(line),
+            b"sealaps" => sealing::seal_aps(line),
+            b"sealat" => sealing::seal_at(line),
+            b"sealapsat" => sealing::seal_aps_at(line),
+            b"remove" => writing::remove(line),
+            b"tunnel" => writing::tunnel(line),
+            b"down" => writing::down(line),
+            b"hash" => hashes::hash(line),
+            b"keyedhash" => hashes::keyed_hash(line),
+            b"print" => label_lines::print(line),
+            b"label" => label_lines::label(line),
+            b"key" => part(line, |f, k| commands::key_of(f, k)),
+            b"digest" => part(line, |f, k| commands::hash_of(f, k)),
+            b"inner" => part(line, |f, k| commands::inner_of(f, k)),
+            b"tlvs" => part(line, |f, k| commands::tlvs_of(f, k)),
+            b"value" => value(line),
+            b"header" => part(line, |f, k| router::portion_of(f, k, Portion::Header)),
+            b"auxiliary" => part(line, |f, k| router::portion_of(f, k, Portion::Auxiliary)),
+            b"payload" => part(line, |f, k| router::portion_of(f, k, Portion::Payload)),
+            b"tag" => part(line, |f, k| router::portion_of(f, k, Portion::Tag)),
+            _ => None,
+        }
     }
 }

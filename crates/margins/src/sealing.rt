@@ -1,13 +1,13 @@
 // Frames sealed, at both layers, and the outgoing counter that it leaves.
 use crate::answer::counted;
 use crate::lent::{Output, board_at, made_board};
-use crate::read::{numbers, octets_at};
+use crate::requests::Field;
 use board::{After, Board};
-use lines::Answer;
+use lines::{Answer, numbers};
 
 pub(crate) fn seal(line: &[u8]) -> Option<Answer> {
     let [_, room, ..] = numbers(line, b".SG")?;
-    let frame = octets_at(line, 2)?;
+    let frame = Field::at(line, 2)?;
     left(
         room,
         |out| network::seal_frame(made_board(), frame.as_slice(), out),
@@ -18,7 +18,7 @@ pub(crate) fn seal(line: &[u8]) -> Option<Answer> {
 pub(crate) fn seal_at(line: &[u8]) -> Option<Answer> {
     let [_, room, outgoing, mark, ..] = numbers(line, b".SCCG")?;
     let board = board_of(outgoing, mark)?;
-    let frame = octets_at(line, 4)?;
+    let frame = Field::at(line, 4)?;
     left(
         room,
         |out| network::seal_frame(board, frame.as_slice(), out),
@@ -28,7 +28,7 @@ pub(crate) fn seal_at(line: &[u8]) -> Option<Answer> {
 pub(crate) fn seal_aps(line: &[u8]) -> Option<Answer> {
     let [_, room, partner, identifier, ..] = numbers(line, b".SABG")?;
     let identifier = u8::try_from(identifier).ok()?;
-    let frame = octets_at(line, 4)?;
+    let frame = Field::at(line, 4)?;
     left(
         room,
         |out| aps::seal_frame(made_board(), frame.as_slice(), partner, identifier, out),
@@ -39,7 +39,7 @@ pub(crate) fn seal_aps_at(line: &[u8]) -> Option<Answer> {
     let [_, room, outgoing, mark, partner, identifier, ..] = numbers(line, b".SCCABG")?;
     let board = board_of(outgoing, mark)?;
     let identifier = u8::try_from(identifier).ok()?;
-    let frame = octets_at(line, 6)?;
+    let frame = Field::at(line, 6)?;
     left(
         room,
         |out| aps::seal_frame(board, frame.as_slice(), partner, identifier, out),

@@ -1,9 +1,9 @@
 // A command written, and the APS counter that it leaves. None of the commands here has a key or a hash.
 use crate::answer::counted;
 use crate::lent::{Output, made_board};
-use crate::read::{numbers, octets_at};
+use crate::requests::Field;
 use commands::Command;
-use lines::Answer;
+use lines::{Answer, numbers};
 
 pub(crate) fn remove(line: &[u8]) -> Option<Answer> {
     let [_, room, target, ..] = numbers(line, b".SA")?;
@@ -16,7 +16,7 @@ pub(crate) fn tunnel(line: &[u8]) -> Option<Answer> {
         room,
         false,
         Command::Tunnel(destination),
-        octets_at(line, 3)?.as_slice(),
+        Field::at(line, 3)?.as_slice(),
     )
 }
 
@@ -26,7 +26,7 @@ pub(crate) fn down(line: &[u8]) -> Option<Answer> {
         room,
         true,
         Command::RelayDownstream,
-        octets_at(line, 2)?.as_slice(),
+        Field::at(line, 2)?.as_slice(),
     )
 }
 

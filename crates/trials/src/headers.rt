@@ -1,19 +1,18 @@
 // Requests on frames, which need no board.
-use crate::desk::done;
-use crate::read::{frame_at, numbers};
+use crate::requests::Field;
 use answers::Refusal;
 use frames::{Auxiliary, Layer, Read, Secured};
-use lines::{Answer, refused};
+use lines::{Answer, numbers, refused};
 
 pub(crate) fn frame(line: &[u8]) -> Option<Answer> {
     numbers(line, b".F")?;
-    let f = frame_at(line, 1)?;
+    let f = Field::at(line, 1)?;
     Some(told(frames::read_frame(Layer::Network, f.as_slice(), 0)))
 }
 
 pub(crate) fn aps_frame(line: &[u8]) -> Option<Answer> {
     let [_, sender, ..] = numbers(line, b".AF")?;
-    let f = frame_at(line, 2)?;
+    let f = Field::at(line, 2)?;
     Some(told(frames::read_frame(Layer::Aps, f.as_slice(), sender)))
 }
 
@@ -26,11 +25,11 @@ fn told(found: Result<Read, Refusal>) -> Answer {
 }
 
 fn plain(h: usize) -> Answer {
-    done().word(b"plain").decimal(h as u64)
+    Answer::done().word(b"plain").decimal(h as u64)
 }
 
 fn secured(s: Secured) -> Answer {
-    done()
+    Answer::done()
         .word(b"secured")
         .decimal(s.header as u64)
         .decimal(s.aux as u64)
@@ -42,7 +41,7 @@ fn secured(s: Secured) -> Answer {
 
 pub(crate) fn plain_frame(layer: Layer, line: &[u8]) -> Option<Answer> {
     numbers(line, b".F")?;
-    let f = frame_at(line, 1)?;
+    let f = Field::at(line, 1)?;
     Some(match frames::read_plain(layer, f.as_slice()) {
         Ok(h) => plain(h),
         Err(why) => refused(why),
@@ -56,7 +55,7 @@ pub(crate) fn nonce(line: &[u8]) -> Option<Answer> {
         u32::try_from(count).ok()?,
         u8::try_from(control).ok()?,
     );
-    Some(done().hex(&n))
+    Some(Answer::done().hex(&n))
 }
 
 // Identifier 1 alone has a sequence number behind the sender.
@@ -71,15 +70,15 @@ pub(crate) fn aux(line: &[u8]) -> Option<Answer> {
     let mut out = [0xee; 14];
     frames::lay_auxiliary(&mut out, 0, aux);
     let n = if identifier % 4 == 1 { 14 } else { 13 };
-    Some(done().hex(&out[..n]))
+    Some(Answer::done().hex(&out[..n]))
 }
 
 pub(crate) fn auth(line: &[u8]) -> Option<Answer> {
     let [_, h, n, ..] = numbers(line, b".BBF")?;
-    let f = frame_at(line, 3)?;
+    let f = Field::at(line, 3)?;
     let mut out = [0xee; 32];
     frames::lay_authenticated(&mut out, f.as_slice(), h as usize, n as usize);
-    Some(done().hex(&out))
+    Some(Answer::done().hex(&out))
 }
 
 // The header that a routine lays, of the plain or of the secured frame of a layer, 0 or 1.
@@ -92,8 +91,8 @@ pub(crate) fn header<F: Fn(&mut [u8], Layer, &[u8], usize)>(lay: F, line: &[u8])
         1 => Layer::Aps,
         _ => return None,
     };
-    let f = frame_at(line, 3)?;
+    let f = Field::at(line, 3)?;
     let mut out = [0xee; 32];
     lay(&mut out, layer, f.as_slice(), h as usize);
-    Some(done().hex(&out))
+    Some(Answer::done().hex(&out))
 }

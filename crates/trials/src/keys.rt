@@ -1,7 +1,6 @@
 // Requests on keys, and on the mark, that need no list.
 use crate::desk::Trials;
-use crate::read::{key_at, numbers};
-use lines::Answer;
+use lines::{Answer, array_of, numbers};
 
 impl Trials {
     pub(crate) fn switch(&mut self, line: &[u8]) -> Option<Answer> {
@@ -12,7 +11,7 @@ impl Trials {
 
     pub(crate) fn link(&mut self, line: &[u8]) -> Option<Answer> {
         let [_, partner, ..] = numbers(line, b".AK")?;
-        let after = board::add_link(self.board?, partner, key_at(line, 2));
+        let after = board::add_link(self.board?, partner, array_of(text::field(line, 2)));
         Some(self.after(after))
     }
 

@@ -1,7 +1,6 @@
 // Requests that are lent the lists, and how much of them is lent.
-use crate::desk::{Lists, Trials, done, told};
-use crate::read::{key_at, numbers};
-use lines::Answer;
+use crate::desk::Trials;
+use lines::{Answer, Lists, array_of, numbers, told};
 
 impl Trials {
     // A board with fresh lists, of which as much is lent as before. A refused board is not taken: the
@@ -23,7 +22,7 @@ impl Trials {
         }
         self.lists.rows = rows as usize;
         self.lists.tops = tops as usize;
-        Some(done())
+        Some(Answer::done())
     }
 
     pub(crate) fn network(&mut self, line: &[u8]) -> Option<Answer> {
@@ -31,7 +30,14 @@ impl Trials {
         let number = u8::try_from(number).ok()?;
         let board = self.board?;
         let (addrs, floors) = self.lists.lent();
-        let after = board::install(board, addrs, floors, slot as usize, number, key_at(line, 3));
+        let after = board::install(
+            board,
+            addrs,
+            floors,
+            slot as usize,
+            number,
+            array_of(text::field(line, 3)),
+        );
         Some(self.after(after))
     }
 

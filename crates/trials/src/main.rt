@@ -10,7 +10,6 @@ mod headers;
 mod keys;
 mod lists;
 mod raw;
-mod read;
 mod requests;
 mod show;
 

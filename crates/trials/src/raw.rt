@@ -1,9 +1,8 @@
 // Slots, link entries, rows, the active slot and the mark, set as they are told, past every rule of
 // the requests.
-use crate::desk::{Trials, done};
-use crate::read::{flag, key_at, numbers};
+use crate::desk::Trials;
 use board::{Link, Slot};
-use lines::Answer;
+use lines::{Answer, array_of, numbers};
 
 impl Trials {
     // No slot has a number above the last, nor has an entry.
@@ -12,11 +11,11 @@ impl Trials {
         let slot = Slot {
             present: flag(present)?,
             seq: u8::try_from(number).ok()?,
-            key: key_at(line, 4),
+            key: array_of(text::field(line, 4)),
         };
         let board = self.board.as_mut()?;
         *board.slots.get_mut(i as usize)? = slot;
-        Some(done())
+        Some(Answer::done())
     }
 
     pub(crate) fn set_link(&mut self, line: &[u8]) -> Option<Answer> {
@@ -24,12 +23,12 @@ impl Trials {
         let link = Link {
             present: flag(present)?,
             partner,
-            key: key_at(line, 4),
+            key: array_of(text::field(line, 4)),
             floor: u32::try_from(floor).ok()?,
         };
         let board = self.board.as_mut()?;
         *board.links.get_mut(i as usize)? = link;
-        Some(done())
+        Some(Answer::done())
     }
 
     // The row is stored, whether it is lent or not.
@@ -39,7 +38,7 @@ impl Trials {
         let row = row as usize;
         *self.lists.floors.get_mut(row)? = u32::try_from(floor).ok()?;
         *self.lists.addrs.get_mut(row)? = sender;
-        Some(done())
+        Some(Answer::done())
     }
 
     // 255 stands for nobody; any other number for that slot, there or not.
@@ -50,13 +49,22 @@ impl Trials {
             255 => None,
             _ => Some(i as usize),
         };
-        Some(done())
+        Some(Answer::done())
     }
 
     pub(crate) fn set_mark(&mut self, line: &[u8]) -> Option<Answer> {
         let [_, mark, ..] = numbers(line, b".C")?;
         let board = self.board.as_mut()?;
         board.mark = u32::try_from(mark).ok()?;
-        Some(done())
+        Some(Answer::done())
+    }
+}
+
+// A number that is 1 or 0, as a slot or an entry is there or not.
+fn flag(x: u64) -> Option<bool> {
+    match x {
+        0 => Some(false),
+        1 => Some(true),
+        _ => None,
     }
 }

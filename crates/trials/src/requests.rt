@@ -1,21 +1,16 @@
 // Which request a line is. Each reads its own fields, and gives no answer where the line has not its
 // form, or asks for a board before there is one.
 use crate::desk::Trials;
-use crate::read::numbers;
 use crate::{headers, show};
 use board::Board;
 use frames::Layer;
-use lines::{Answer, Desk};
+use lines::{Answer, Desk, Octets, numbers};
+
+// The octets of a field of kind F: 256 of them at most.
+pub(crate) type Field = Octets<256>;
 
 impl Desk for Trials {
-    fn answer(&mut self, long: bool, line: &[u8]) -> Answer {
-        let answer = if long { None } else { self.answer_to(line) };
-        answer.unwrap_or_else(|| Answer::first(b"bad"))
-    }
-}
-
-impl Trials {
-    fn answer_to(&mut self, line: &[u8]) -> Option<Answer> {
+    fn answer(&mut self, line: &[u8]) -> Option<Answer> {
         match text::field(line, 0) {
             b"network" => self.network(line),
             b"forget" => self.forget(line),
@@ -53,7 +48,9 @@ impl Trials {
             _ => None,
         }
     }
+}
 
+impl Trials {
     fn shown<F: Fn(&Board) -> Answer>(&self, line: &[u8], show: F) -> Option<Answer>
         requires { F.IsAlwaysCallable show }
     {

@@ -1,10 +1,9 @@
 // The tables, told whole: also what a free place holds.
-use crate::desk::{Lists, done};
 use board::{Board, Link, Slot};
-use lines::Answer;
+use lines::{Answer, Lists};
 
 pub(crate) fn counters(b: &Board) -> Answer {
-    done()
+    Answer::done()
         .address(b.own)
         .decimal(b.outgoing as u64)
         .decimal(b.aps as u64)
@@ -12,11 +11,11 @@ pub(crate) fn counters(b: &Board) -> Answer {
 }
 
 pub(crate) fn next_mark(b: &Board) -> Answer {
-    done().decimal(board::next_mark(*b) as u64)
+    Answer::done().decimal(board::next_mark(*b) as u64)
 }
 
 pub(crate) fn slots(b: &Board) -> Answer {
-    let told = b.slots.iter().fold(done(), slot);
+    let told = b.slots.iter().fold(Answer::done(), slot);
     match b.active {
         None => told.word(b"-"),
         Some(i) => told.decimal(i as u64),
@@ -30,7 +29,7 @@ fn slot(a: Answer, s: &Slot) -> Answer {
 }
 
 pub(crate) fn links(b: &Board) -> Answer {
-    b.links.iter().fold(done(), link)
+    b.links.iter().fold(Answer::done(), link)
 }
 
 fn link(a: Answer, l: &Link) -> Answer {
@@ -41,8 +40,8 @@ fn link(a: Answer, l: &Link) -> Answer {
 }
 
 // A row that is zero in both lists is not told.
-pub(crate) fn rows(lists: &Lists) -> Answer {
-    let mut a = done();
+pub(crate) fn rows<const N: usize>(lists: &Lists<N>) -> Answer {
+    let mut a = Answer::done();
     for (r, (&sender, &floor)) in lists.addrs.iter().zip(&lists.floors).enumerate() {
         if sender != 0 || floor != 0 {
             a = a.decimal(r as u64).address(sender).decimal(floor as u64);

@@ -4,7 +4,6 @@
 // for each answer: it reads what is there and writes an answer as soon as its line has ended.
 #![tactic(auto)]
 
-mod read;
 mod requests;
 
 use requests::Vectors;

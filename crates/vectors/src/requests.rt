@@ -1,8 +1,7 @@
 // The requests: each reads its fields, calls one routine and tells its answer.
-use crate::read::{array_at, numbers, octets_at};
 use answers::Refusal;
 use cipher::Fault;
-use lines::{Answer, Desk, Octets, lent_of, refused};
+use lines::{Answer, Desk, Octets, array_of, lent_of, numbers, refused};
 
 // How many octets of output the lines are lent from now on.
 #[derive(Drop)]
@@ -11,15 +10,7 @@ pub struct Vectors {
 }
 
 impl Desk for Vectors {
-    fn answer(&mut self, long: bool, line: &[u8]) -> Answer {
-        let answer = if long { None } else { self.answer_to(line) };
-        answer.unwrap_or_else(|| Answer::first(b"bad"))
-    }
-}
-
-impl Vectors {
-    // None for a line that is no request.
-    fn answer_to(&mut self, line: &[u8]) -> Option<Answer> {
+    fn answer(&mut self, line: &[u8]) -> Option<Answer> {
         match text::field(line, 0) {
             b"aes" => aes(line),
             b"seal" => ccm(cipher::seal, line, self.lent),
@@ -30,21 +21,26 @@ impl Vectors {
             _ => None,
         }
     }
+}
 
+impl Vectors {
     fn lend(&mut self, line: &[u8]) -> Option<Answer> {
         let [_, lent, ..] = numbers(line, b".S")?;
         if lent > 256 {
             return None;
         }
         self.lent = lent as usize;
-        Some(done())
+        Some(Answer::done())
     }
 }
 
 fn aes(line: &[u8]) -> Option<Answer> {
     numbers(line, b".KK")?;
-    let made = cipher::aes128_block(array_at(line, 1), array_at(line, 2));
-    Some(done().hex(&made))
+    let made = cipher::aes128_block(
+        array_of(text::field(line, 1)),
+        array_of(text::field(line, 2)),
+    );
+    Some(Answer::done().hex(&made))
 }
 
 // The number of a field of octets is how many they are; a nonce has 13.
@@ -57,20 +53,20 @@ where
     if nonce != 13 {
         return None;
     }
-    let authenticated: Octets<256> = octets_at(line, 4)?;
-    let data: Octets<256> = octets_at(line, 5)?;
+    let authenticated: Octets<256> = Octets::at(line, 4)?;
+    let data: Octets<256> = Octets::at(line, 5)?;
     let mut out = [0; 256];
     let room = lent_of(lent, &out);
     let made = routine(
         tag as usize,
-        array_at(line, 2),
-        array_at(line, 3),
+        array_of(text::field(line, 2)),
+        array_of(text::field(line, 3)),
         authenticated.as_slice(),
         data.as_slice(),
         &mut out[..room],
     );
     Some(match made {
-        Ok(n) => done().hex(text::front(&out, n)),
+        Ok(n) => Answer::done().hex(text::front(&out, n)),
         Err(fault) => refused(refusal_of(fault)),
     })
 }
@@ -78,25 +74,21 @@ where
 // An input of up to 512 octets is tried.
 fn hash(line: &[u8]) -> Option<Answer> {
     numbers(line, b".G")?;
-    let input: Octets<512> = octets_at(line, 1)?;
+    let input: Octets<512> = Octets::at(line, 1)?;
     Some(hashed(cipher::hash(input.as_slice())))
 }
 
 fn keyed_hash(line: &[u8]) -> Option<Answer> {
     numbers(line, b".KG")?;
-    let input: Octets<512> = octets_at(line, 2)?;
-    Some(hashed(cipher::keyed_hash(array_at(line, 1), input.as_slice())))
+    let input: Octets<512> = Octets::at(line, 2)?;
+    Some(hashed(cipher::keyed_hash(array_of(text::field(line, 1)), input.as_slice())))
 }
 
 fn hashed(hash: Result<[u8; 16], Fault>) -> Answer {
     match hash {
-        Ok(block) => done().hex(&block),
+        Ok(block) => Answer::done().hex(&block),
         Err(fault) => refused(refusal_of(fault)),
     }
-}
-
-fn done() -> Answer {
-    Answer::first(b"ok")
 }
 
 // The cipher's faults are refusals of the same names and numbers.
