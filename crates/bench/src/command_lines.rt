@@ -1,6 +1,5 @@
 // APS commands, read and written.
-use crate::desk::{Bench, laid};
-use crate::requests::Field;
+use crate::desk::{Bench, Field, laid};
 use commands::{Command, Requested, Transported};
 use lines::{Answer, lent_of, numbers, protection_of, refused};
 

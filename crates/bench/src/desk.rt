@@ -1,7 +1,10 @@
 // What stays from line to line.
 use answers::Refusal;
 use board::{After, Board};
-use lines::{Answer, Lists, refused};
+use lines::{Answer, Lists, Octets, refused};
+
+// The octets of a field of kind F: 256 of them at most.
+pub(crate) type Field = Octets<256>;
 
 // The board, if one was made, its stored lists, and how many octets of output are lent.
 #[derive(Drop)]

@@ -1,5 +1,5 @@
 // The hash and the keyed hash, which need no board.
-use crate::requests::Field;
+use crate::desk::Field;
 use answers::Refusal;
 use cipher::Fault;
 use lines::{Answer, array_of, numbers, refused};

@@ -1,6 +1,5 @@
 // Labels read and printed, which need no board.
-use crate::desk::Bench;
-use crate::requests::Field;
+use crate::desk::{Bench, Field};
 use lines::{Answer, lent_of, numbers, refused};
 
 // A label's text stands in its line as it is.

@@ -1,6 +1,5 @@
 // Frames opened, at both layers.
-use crate::desk::Bench;
-use crate::requests::Field;
+use crate::desk::{Bench, Field};
 use answers::{Opened, Refusal};
 use lines::{Answer, lent_of, numbers, refused};
 

@@ -2,10 +2,7 @@
 // form, or asks for a board before there is one.
 use crate::desk::Bench;
 use crate::{command_lines, hashes, label_lines, routing};
-use lines::{Answer, Desk, Octets};
-
-// The octets of a field of kind F: 256 of them at most.
-pub(crate) type Field = Octets<256>;
+use lines::{Answer, Desk};
 
 impl Desk for Bench {
     fn answer(&mut self, line: &[u8]) -> Option<Answer> {

@@ -1,5 +1,5 @@
 // A frame handed to the router, and what the router sends on.
-use crate::requests::Field;
+use crate::desk::Field;
 use lines::{Answer, numbers, protection_of, refused};
 use router::Portion;
 

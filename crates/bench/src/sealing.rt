@@ -1,6 +1,5 @@
 // Frames sealed, at both layers.
-use crate::desk::{Bench, laid};
-use crate::requests::Field;
+use crate::desk::{Bench, Field, laid};
 use lines::{Answer, lent_of, numbers};
 
 impl Bench {

@@ -1,6 +1,5 @@
 // The hash and the keyed hash, with the octets that a refusal answers.
-use crate::lent::key_from;
-use crate::requests::Field;
+use crate::lent::{Field, key_from};
 use answers::Refusal;
 use cipher::Fault;
 use lines::{Answer, numbers, refused};

@@ -1,7 +1,6 @@
 // Labels printed, with the whole output, and read, with the octets that a refusal answers.
 use crate::answer::counted;
-use crate::lent::Output;
-use crate::requests::Field;
+use crate::lent::{Field, Output};
 use lines::{Answer, numbers, refused};
 
 pub(crate) fn print(line: &[u8]) -> Option<Answer> {

@@ -1,7 +1,10 @@
 // What every line is lent, made anew for it.
 use board::{Board, Link, Slot};
-use lines::{Lists, lent_of};
+use lines::{Lists, Octets, lent_of};
 use std::array;
+
+// The octets of a field of kind F of docs/MARGINS.md, of the 512 that there is room for; its letter in a form is G.
+pub(crate) type Field = Octets<512>;
 
 // An output of octets EE, of which a line is lent the first.
 #[derive(Drop)]

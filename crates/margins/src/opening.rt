@@ -1,7 +1,6 @@
 // Frames opened, at both layers, and what that leaves.
 use crate::answer::opened;
-use crate::lent::{Output, made_board, made_lists};
-use crate::requests::Field;
+use crate::lent::{Field, Output, made_board, made_lists};
 use lines::{Answer, Lists, numbers};
 
 pub(crate) fn open(line: &[u8]) -> Option<Answer> {

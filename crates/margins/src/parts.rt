@@ -1,5 +1,5 @@
 // Parts of a command's frame, each asked for alone.
-use crate::requests::Field;
+use crate::lent::Field;
 use lines::{Answer, numbers, protection_of};
 
 // The part that a routine hands back.

@@ -2,11 +2,8 @@
 // form.
 use crate::parts::{part, value};
 use crate::{hashes, label_lines, opening, sealing, writing};
-use lines::{Answer, Desk, Octets};
+use lines::{Answer, Desk};
 use router::Portion;
-
-// The octets of a field of kind F of docs/MARGINS.md, of the 512 that there is room for; its letter in a form is G.
-pub(crate) type Field = Octets<512>;
 
 // Nothing stays from line to line.
 #[derive(Drop)]

@@ -1,7 +1,6 @@
 // Frames sealed, at both layers, and the outgoing counter that it leaves.
 use crate::answer::counted;
-use crate::lent::{Output, board_at, made_board};
-use crate::requests::Field;
+use crate::lent::{Field, Output, board_at, made_board};
 use board::{After, Board};
 use lines::{Answer, numbers};
 

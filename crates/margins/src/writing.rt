@@ -1,7 +1,6 @@
 // A command written, and the APS counter that it leaves. None of the commands here has a key or a hash.
 use crate::answer::counted;
-use crate::lent::{Output, made_board};
-use crate::requests::Field;
+use crate::lent::{Field, Output, made_board};
 use commands::Command;
 use lines::{Answer, numbers};
 

@@ -1,6 +1,9 @@
 // What stays from line to line.
 use board::{After, Board};
-use lines::{Answer, Lists, told};
+use lines::{Answer, Lists, Octets, told};
+
+// The octets of a field of kind F: 256 of them at most.
+pub(crate) type Field = Octets<256>;
 
 // The board, if one was made, and the stored lists.
 #[derive(Drop)]

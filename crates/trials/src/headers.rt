@@ -1,5 +1,5 @@
 // Requests on frames, which need no board.
-use crate::requests::Field;
+use crate::desk::Field;
 use answers::Refusal;
 use frames::{Auxiliary, Layer, Read, Secured};
 use lines::{Answer, numbers, refused};

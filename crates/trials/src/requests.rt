@@ -4,10 +4,7 @@ use crate::desk::Trials;
 use crate::{headers, show};
 use board::Board;
 use frames::Layer;
-use lines::{Answer, Desk, Octets, numbers};
-
-// The octets of a field of kind F: 256 of them at most.
-pub(crate) type Field = Octets<256>;
+use lines::{Answer, Desk, numbers};
 
 impl Desk for Trials {
     fn answer(&mut self, line: &[u8]) -> Option<Answer> {
