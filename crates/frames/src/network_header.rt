@@ -39,8 +39,8 @@ fn is_secured(c: u16) -> bool
 fn base(c: u16) -> usize
     ensures { (result ≡ network_base c) × (result ≤ 24) }
 {
-    let destination = (c / 2048 % 2) as usize;
-    let source = (c / 4096 % 2) as usize;
+    let destination = usize::from(c / 2048 % 2);
+    let source = usize::from(c / 4096 % 2);
     8 + 8 * destination + 8 * source
 }
 
@@ -50,7 +50,7 @@ fn header_length(f: &[u8], c: u16) -> usize
 {
     let b = base(c);
     if c / 1024 % 2 == 1 {
-        let n = octets::octet(f, b) as usize;
+        let n = usize::from(octets::octet(f, b));
         return b + 2 + 2 * n;
     }
     b

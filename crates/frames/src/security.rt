@@ -42,7 +42,7 @@ pub fn wire_control(identifier: u8) -> u8
 pub(crate) fn aux_length(control: u8) -> usize
     ensures { (result ≡ aux_length control) × (result ≤ 14) }
 {
-    let long = extended(control) as usize;
+    let long = usize::from(extended(control));
     if identifier(control) == 1 {
         return 6 + 8 * long;
     }
@@ -67,7 +67,7 @@ pub(crate) fn sequence(f: &[u8], h: usize) -> u8
 {
     let control = f[h];
     if identifier(control) == 1 {
-        let long = extended(control) as usize;
+        let long = usize::from(extended(control));
         return octets::octet(f, h + 5 + 8 * long);
     }
     0
