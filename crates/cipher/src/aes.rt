@@ -58,7 +58,7 @@ impl Tables {
     fn sub_byte(&self, x: u8) -> u8
         ensures { result ≡ sbox x }
     {
-        self.substitutes[x as usize]
+        self.substitutes[usize::from(x)]
     }
 
     fn sub_bytes(&self, s: [u8; 16]) -> [u8; 16]

@@ -6,4 +6,4 @@ use Rattle.cipher.proofs.aes.Tables.sub_byte.Goals as goal
 
 pub returns : goal.returns
 unfolding sbox
-returns c = ap (λ l. get_or l c.args.x 0) c.args.self.now.substituting
+returns c = rw c.from.ensures (ap (λ l. get_or l c.args.x 0) c.args.self.now.substituting)
