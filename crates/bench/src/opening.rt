@@ -34,14 +34,10 @@ fn told<F: FnOnce() -> bool>(found: Result<Opened, Refusal>, out: &[u8], look: F
     requires { F.IsAlwaysCallable look }
 {
     match found {
-        Ok(opened) => {
-            let sender = Answer::done().address(opened.sender);
-            let protection = match opened.protection {
-                None => sender.word(b"none"),
-                Some(k) => sender.decimal(k as u64),
-            };
-            protection.hex(text::front(out, opened.length))
-        }
+        Ok(opened) => Answer::done()
+            .address(opened.sender)
+            .decimal_or(opened.protection.map(u64::from), b"none")
+            .hex(text::front(out, opened.length)),
         Err(Refusal::Stale) => {
             let verdict = if look() { b"genuine" } else { b"altered" };
             refused(Refusal::Stale).word(verdict)

@@ -7,14 +7,13 @@ impl Bench {
     pub(crate) fn state(&self, line: &[u8]) -> Option<Answer> {
         numbers(line, b".")?;
         let board = self.board?;
-        let counters = Answer::done()
-            .decimal(board.outgoing as u64)
-            .decimal(board.aps as u64);
-        let active = match board.active {
-            None => counters.word(b"-"),
-            Some(i) => counters.decimal(i as u64),
-        };
-        Some(active.decimal(board.mark as u64))
+        Some(
+            Answer::done()
+                .decimal(board.outgoing as u64)
+                .decimal(board.aps as u64)
+                .decimal_or(board.active.map(|i| i as u64), b"-")
+                .decimal(board.mark as u64),
+        )
     }
 
     pub(crate) fn links(&self, line: &[u8]) -> Option<Answer> {

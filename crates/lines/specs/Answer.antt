@@ -25,6 +25,11 @@ more n l s = if nat_le (length l + length s) n then l ++ s else l
 unfoldable pub field : List ℕ → List ℕ → List ℕ
 field l s = more room (more room l (9 ∷ [])) s
 
+-- a number in decimal, or the word w where there is none
+abbrev pub spelt_or : Option ℕ → List ℕ → List ℕ
+spelt_or None w = w
+spelt_or (Some x) w = decimal x
+
 -- a line of the output: its number, a tab, the answer, a line feed
 unfoldable pub whole_line : ℕ → List ℕ → List ℕ
 whole_line k l = decimal k ++ (9 ∷ []) ++ l ++ (10 ∷ [])

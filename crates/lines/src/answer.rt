@@ -2,7 +2,7 @@
 ghost use Rattle.std.specs.Prelude.{◌≡◌, []};
 ghost use Rattle.text.specs.Decimal.{decimal as spelt};
 ghost use Rattle.text.specs.Hex.{hex_of, address as addressed};
-ghost use Rattle.lines.specs.Answer.{room, ok, bad, said, written, more, field, whole_line};
+ghost use Rattle.lines.specs.Answer.{room, ok, bad, said, written, more, field, spelt_or, whole_line};
 
 use crate::buffer::Octets;
 
@@ -58,6 +58,16 @@ impl Answer {
         self.push(b"\t");
         self.push_decimal(x);
         self
+    }
+
+    // A number in decimal, or that word where there is none.
+    pub fn decimal_or(self, x: Option<u64>, none: &[u8]) -> Self
+        ensures { said result ≡ field (said self) (spelt_or x none.now) }
+    {
+        match x {
+            Some(x) => self.decimal(x),
+            None => self.word(none),
+        }
     }
 
     pub fn address(mut self, x: u64) -> Self

@@ -12,15 +12,10 @@ pub(crate) fn counted(made: Result<usize, Refusal>) -> Answer {
 
 pub(crate) fn opened(found: Result<Opened, Refusal>) -> Answer {
     match found {
-        Ok(opened) => {
-            let sender = Answer::done()
-                .decimal(opened.length as u64)
-                .address(opened.sender);
-            match opened.protection {
-                None => sender.word(b"none"),
-                Some(k) => sender.decimal(k as u64),
-            }
-        }
+        Ok(opened) => Answer::done()
+            .decimal(opened.length as u64)
+            .address(opened.sender)
+            .decimal_or(opened.protection.map(u64::from), b"none"),
         Err(why) => refused(why),
     }
 }

@@ -15,11 +15,10 @@ pub(crate) fn next_mark(b: &Board) -> Answer {
 }
 
 pub(crate) fn slots(b: &Board) -> Answer {
-    let told = b.slots.iter().fold(Answer::done(), slot);
-    match b.active {
-        None => told.word(b"-"),
-        Some(i) => told.decimal(i as u64),
-    }
+    b.slots
+        .iter()
+        .fold(Answer::done(), slot)
+        .decimal_or(b.active.map(|i| i as u64), b"-")
 }
 
 fn slot(a: Answer, s: &Slot) -> Answer {
