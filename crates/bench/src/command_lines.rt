@@ -20,23 +20,23 @@ fn told(command: Command, f: &[u8], protection: Option<u8>) -> Answer {
         Command::TransportKey(key) => transported(key, commands::key_of(f, protection), tlvs),
         Command::UpdateDevice(device, short, status) => word(b"update")
             .address(device)
-            .decimal(short as u64)
-            .decimal(status as u64)
+            .decimal(u64::from(short))
+            .decimal(u64::from(status))
             .hex(tlvs),
         Command::RemoveDevice(target) => word(b"remove").address(target),
         Command::RequestKey(Requested::Application(partner)) => word(b"request2").address(partner),
         Command::RequestKey(Requested::TrustCentre) => word(b"request4"),
-        Command::SwitchKey(sequence) => word(b"switchkey").decimal(sequence as u64),
+        Command::SwitchKey(sequence) => word(b"switchkey").decimal(u64::from(sequence)),
         Command::Tunnel(destination) => word(b"tunnel")
             .address(destination)
             .hex(commands::inner_of(f, protection)),
         Command::VerifyKey(kind, source) => word(b"verify")
-            .decimal(kind as u64)
+            .decimal(u64::from(kind))
             .address(source)
             .hex(commands::hash_of(f, protection)),
         Command::ConfirmKey(status, kind, destination) => word(b"confirm")
-            .decimal(status as u64)
-            .decimal(kind as u64)
+            .decimal(u64::from(status))
+            .decimal(u64::from(kind))
             .address(destination),
         Command::RelayDownstream => word(b"down").hex(tlvs),
         Command::RelayUpstream => word(b"up").hex(tlvs),
@@ -47,7 +47,7 @@ fn transported(t: Transported, key: &[u8], tlvs: &[u8]) -> Answer {
     match t {
         Transported::Network(sequence, destination, source) => word(b"transport1")
             .hex(key)
-            .decimal(sequence as u64)
+            .decimal(u64::from(sequence))
             .address(destination)
             .address(source),
         Transported::TrustCentre(destination, source) => word(b"transport4")
@@ -58,12 +58,12 @@ fn transported(t: Transported, key: &[u8], tlvs: &[u8]) -> Answer {
         Transported::ApplicationMaster(partner, initiator) => word(b"transport2")
             .hex(key)
             .address(partner)
-            .decimal(initiator as u64)
+            .decimal(u64::from(initiator))
             .hex(tlvs),
         Transported::ApplicationLink(partner, initiator) => word(b"transport3")
             .hex(key)
             .address(partner)
-            .decimal(initiator as u64)
+            .decimal(u64::from(initiator))
             .hex(tlvs),
     }
 }

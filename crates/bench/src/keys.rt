@@ -48,7 +48,7 @@ impl Bench {
     pub(crate) fn mark(&self, line: &[u8]) -> Option<Answer> {
         numbers(line, b".")?;
         let mark = board::next_mark(self.board?);
-        Some(Answer::done().decimal(mark as u64))
+        Some(Answer::done().decimal(u64::from(mark)))
     }
 
     pub(crate) fn marked(&mut self, line: &[u8]) -> Option<Answer> {

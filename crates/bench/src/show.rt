@@ -9,10 +9,10 @@ impl Bench {
         let board = self.board?;
         Some(
             Answer::done()
-                .decimal(board.outgoing as u64)
-                .decimal(board.aps as u64)
+                .decimal(u64::from(board.outgoing))
+                .decimal(u64::from(board.aps))
                 .decimal_or(board.active.map(|i| i as u64), b"-")
-                .decimal(board.mark as u64),
+                .decimal(u64::from(board.mark)),
         )
     }
 
@@ -54,5 +54,7 @@ impl Bench {
 }
 
 fn entry(a: Answer, i: usize, address: u64, floor: u32) -> Answer {
-    a.decimal(i as u64).address(address).decimal(floor as u64)
+    a.decimal(i as u64)
+        .address(address)
+        .decimal(u64::from(floor))
 }

@@ -55,7 +55,7 @@ pub(crate) fn open_aps(line: &[u8]) -> Option<Answer> {
     Some(
         opened(received.answer)
             .hex(out.as_slice())
-            .decimal(first.floor as u64)
-            .decimal(second.floor as u64),
+            .decimal(u64::from(first.floor))
+            .decimal(u64::from(second.floor)),
     )
 }

@@ -57,6 +57,6 @@ fn left<F: FnOnce(&mut [u8]) -> After<usize>>(room: u64, seal: F) -> Option<Answ
     Some(
         counted(sent.answer)
             .hex(out.as_slice())
-            .decimal(sent.board.outgoing as u64),
+            .decimal(u64::from(sent.board.outgoing)),
     )
 }

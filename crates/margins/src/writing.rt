@@ -35,6 +35,6 @@ fn write(room: u64, acknowledged: bool, command: Command, rest: &[u8]) -> Option
     Some(
         counted(wrote.answer)
             .hex(out.as_slice())
-            .decimal(wrote.board.aps as u64),
+            .decimal(u64::from(wrote.board.aps)),
     )
 }

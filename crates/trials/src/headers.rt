@@ -33,10 +33,10 @@ fn secured(s: Secured) -> Answer {
         .word(b"secured")
         .decimal(s.header as u64)
         .decimal(s.aux as u64)
-        .decimal(s.control as u64)
-        .decimal(s.counter as u64)
+        .decimal(u64::from(s.control))
+        .decimal(u64::from(s.counter))
         .address(s.sender)
-        .decimal(s.sequence as u64)
+        .decimal(u64::from(s.sequence))
 }
 
 pub(crate) fn plain_frame(layer: Layer, line: &[u8]) -> Option<Answer> {

@@ -5,13 +5,13 @@ use lines::{Answer, Lists};
 pub(crate) fn counters(b: &Board) -> Answer {
     Answer::done()
         .address(b.own)
-        .decimal(b.outgoing as u64)
-        .decimal(b.aps as u64)
-        .decimal(b.mark as u64)
+        .decimal(u64::from(b.outgoing))
+        .decimal(u64::from(b.aps))
+        .decimal(u64::from(b.mark))
 }
 
 pub(crate) fn next_mark(b: &Board) -> Answer {
-    Answer::done().decimal(board::next_mark(*b) as u64)
+    Answer::done().decimal(u64::from(board::next_mark(*b)))
 }
 
 pub(crate) fn slots(b: &Board) -> Answer {
@@ -22,8 +22,8 @@ pub(crate) fn slots(b: &Board) -> Answer {
 }
 
 fn slot(a: Answer, s: &Slot) -> Answer {
-    a.decimal(s.present as u64)
-        .decimal(s.seq as u64)
+    a.decimal(u64::from(s.present))
+        .decimal(u64::from(s.seq))
         .hex(&s.key)
 }
 
@@ -32,10 +32,10 @@ pub(crate) fn links(b: &Board) -> Answer {
 }
 
 fn link(a: Answer, l: &Link) -> Answer {
-    a.decimal(l.present as u64)
+    a.decimal(u64::from(l.present))
         .address(l.partner)
         .hex(&l.key)
-        .decimal(l.floor as u64)
+        .decimal(u64::from(l.floor))
 }
 
 // A row that is zero in both lists is not told.
