@@ -39,7 +39,10 @@ fn changed_rows<const N: usize>(a: Answer, before: &Lists<N>, after: &Lists<N>) 
     let is = after.addrs.iter().zip(&after.floors);
     for (r, (was, (&sender, &floor))) in was.zip(is).enumerate() {
         if was != (&sender, &floor) {
-            told = told.decimal(r as u64).address(sender).decimal(floor as u64);
+            told = told
+                .decimal(r as u64)
+                .address(sender)
+                .decimal(u64::from(floor));
         }
     }
     told

@@ -43,7 +43,10 @@ pub(crate) fn rows<const N: usize>(lists: &Lists<N>) -> Answer {
     let mut a = Answer::done();
     for (r, (&sender, &floor)) in lists.addrs.iter().zip(&lists.floors).enumerate() {
         if sender != 0 || floor != 0 {
-            a = a.decimal(r as u64).address(sender).decimal(floor as u64);
+            a = a
+                .decimal(r as u64)
+                .address(sender)
+                .decimal(u64::from(floor));
         }
     }
     a
