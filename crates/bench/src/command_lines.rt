@@ -106,7 +106,8 @@ impl Bench {
 }
 
 // The form of a `write` line by its command's word: behind `ack` or `noack` and the word stand the
-// command's numbers, its key or hash, and its other octets.
+// command's numbers, its key or hash, and its other octets. The numbers are read by it before there is a command,
+// so that it has a match of its own.
 fn form_of(word: &[u8]) -> Option<&'static [u8]> {
     match word {
         b"transport1" => Some(b"...kBAA"),

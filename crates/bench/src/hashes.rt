@@ -16,7 +16,8 @@ pub(crate) fn keyed_hash(line: &[u8]) -> Option<Answer> {
     Some(hashed(cipher::keyed_hash(array_of(text::field(line, 1)), input.as_slice())))
 }
 
-// The only fault that hashing has is an input that is too long.
+// The only fault that hashing has is an input that is too long. What it tells is each program's own, and `lines`
+// knows no cipher.
 fn hashed(hash: Result<[u8; 16], Fault>) -> Answer {
     match hash {
         Ok(block) => Answer::done().hex(&block),

@@ -1,5 +1,6 @@
 // The requests that change keys, two of which are lent the lists, and the mark, moved ahead by the two
-// lines of a step.
+// lines of a step. `trials` has most of them too, and each program its own of three lines: a library of
+// both would have a contract for each, and so a definition of its line.
 use crate::desk::Bench;
 use lines::{Answer, array_of, numbers, told};
 

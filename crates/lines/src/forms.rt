@@ -34,13 +34,9 @@ pub fn kind_of(letter: u8) -> Kind
         b'C' => Kind::Decimal(4294967295),
         b'T' => Kind::Protection,
         b'K' => Kind::Hex(16, 16),
-        b'F' => Kind::Hex(0, 256),
+        b'F' | b'k' | b'h' | b'i' | b't' => Kind::Hex(0, 256),
         b'G' => Kind::Hex(0, 1024),
         b'X' => Kind::Text(0, 256),
-        b'k' => Kind::Hex(0, 256),
-        b'h' => Kind::Hex(0, 256),
-        b'i' => Kind::Hex(0, 256),
-        b't' => Kind::Hex(0, 256),
         _ => Kind::Word,
     }
 }

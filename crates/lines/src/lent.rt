@@ -10,7 +10,8 @@ pub fn lent_of<T>(lent: usize, list: &[T]) -> usize
     lent.min(list.len())
 }
 
-// The two lists of heard senders, of N rows each, and how many rows of each are lent.
+// The two lists of heard senders, of N rows each, and how many rows of each are lent: two arrays, as a host lends
+// them.
 #[derive(Clone, Copy)]
 pub struct Lists<const N: usize> {
     pub addrs: [u64; N],

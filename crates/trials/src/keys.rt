@@ -1,4 +1,5 @@
-// Requests on keys, and on the mark, that need no list.
+// Requests on keys, and on the mark, that need no list. `bench` has them too, and each program its own of
+// three lines: a library of both would have a contract for each, and so a definition of its line.
 use crate::desk::Trials;
 use lines::{Answer, array_of, numbers};
 

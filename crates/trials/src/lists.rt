@@ -1,4 +1,4 @@
-// Requests that are lent the lists, and how much of them is lent.
+// Requests that are lent the lists, and how much of them is lent. Those of `bench` are its own, as in `keys`.
 use crate::desk::Trials;
 use lines::{Answer, Lists, array_of, numbers, told};
 

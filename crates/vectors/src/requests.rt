@@ -84,6 +84,7 @@ fn keyed_hash(line: &[u8]) -> Option<Answer> {
     Some(hashed(cipher::keyed_hash(array_of(text::field(line, 1)), input.as_slice())))
 }
 
+// Each program tells a hash in its own way, and `lines` knows no cipher.
 fn hashed(hash: Result<[u8; 16], Fault>) -> Answer {
     match hash {
         Ok(block) => Answer::done().hex(&block),
@@ -91,7 +92,8 @@ fn hashed(hash: Result<[u8; 16], Fault>) -> Answer {
     }
 }
 
-// The cipher's faults are refusals of the same names and numbers.
+// The cipher's faults are refusals of the same names and numbers. No From: `cipher` and `answers` don't know each
+// other, and a program can't give one for both.
 fn refusal_of(fault: Fault) -> Refusal {
     match fault {
         Fault::Room => Refusal::Room,
