@@ -28,11 +28,7 @@ pub fn octets_of(s: &[u8], out: &mut [u8]) -> Option<usize>
 pub fn address_of(s: &[u8]) -> Option<u64>
     ensures { result ≡ address_of s.now }
 {
-    if s.len() == 16 && all_digits(16, s) {
-        Some(value(s))
-    } else {
-        None
-    }
+    (s.len() == 16 && all_digits(16, s)).then(|| value(s))
 }
 
 // Writes the octets of src in hex.
