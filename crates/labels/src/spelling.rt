@@ -53,7 +53,8 @@ pub(crate) fn count_digits(s: &[u8]) -> usize
     s.iter().filter(|&&c| !is_separator(c)).count()
 }
 
-// Lays these digits at the front of out.
+// Lays these digits at the front of out, by their place: once a list was lent by `iter_mut` a proof knows its
+// length alone.
 pub(crate) fn lay_digits(s: &[u8], out: &mut [u8])
     requires { length (digits_in s.now) ≤ length out.old }
     ensures { out.new ≡ onto (digits_in s.now) out.old }

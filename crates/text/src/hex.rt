@@ -54,7 +54,8 @@ pub fn put_address(out: &mut [u8], at: usize, a: u64) -> usize
     put(out, at, &text[..n])
 }
 
-// The octets that s spells, laid at the front of out.
+// The octets that s spells, laid at the front of out: by their place, here and in `put_hex`, since once a list was
+// lent by `iter_mut` a proof knows its length alone.
 fn fill(s: &[u8], out: &mut [u8])
     requires s_in_bounds { length s.now / 2 ≤ length out.old }
     requires s_value { all_digits 16 s.now ≡ true }
