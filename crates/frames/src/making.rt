@@ -39,6 +39,7 @@ pub fn lay_authenticated(out: &mut [u8], frame: &[u8], header: usize, n: usize)
     );
 }
 
+// The octet that has a layer's security bit, and the value of the bit in it.
 fn place(l: Layer) -> usize
     ensures { result ≡ bit_place l }
 {
@@ -48,8 +49,15 @@ fn place(l: Layer) -> usize
     }
 }
 
-// A bit cleared and a bit set are two sentences of document 01, each with a definition, here and in the headers
-// below.
+fn bit(l: Layer) -> u8
+    ensures { result ≡ bit_value l }
+{
+    match l {
+        Layer::Network => 2,
+        Layer::Aps => 32,
+    }
+}
+
 #[tactic(auto, unfolding(crate::specs::Making::cleared))]
 fn clear(l: Layer, x: u8) -> u8
     ensures { result ≡ cleared (bit_value l) x }
@@ -64,10 +72,7 @@ fn clear(l: Layer, x: u8) -> u8
 fn mark(l: Layer, x: u8) -> u8
     ensures { result ≡ marked (bit_value l) x }
 {
-    match l {
-        Layer::Network => x - x / 2 % 2 * 2 + 2,
-        Layer::Aps => x - x / 32 % 2 * 32 + 32,
-    }
+    clear(l, x) + bit(l)
 }
 
 // The header of the plain frame: its security bit cleared.
