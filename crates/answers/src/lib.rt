@@ -35,6 +35,19 @@ pub struct Opened {
     pub protection: Option<u8>,
 }
 
+impl Opened {
+    // An unsecured frame of so many octets.
+    pub fn plain(length: usize) -> Opened
+        ensures { result ≡ record { length = length; sender = 0; protection = None } }
+    {
+        Opened {
+            length,
+            sender: 0,
+            protection: None,
+        }
+    }
+}
+
 impl From<Refusal> for u8 {
     ghost from_gives = { λ refusal number. number ≡ number_of refusal };
 

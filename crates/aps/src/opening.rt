@@ -96,11 +96,7 @@ fn open_read(links: [Link; 8], f: &[u8], given: u64, out: &mut [u8]) -> Result<H
         Read::Plain(_) => {
             octets::paste_at(out, 0, f);
             Ok(Heard {
-                opened: Opened {
-                    length: f.len(),
-                    sender: 0,
-                    protection: None,
-                },
+                opened: Opened::plain(f.len()),
                 raised: None,
             })
         }

@@ -21,10 +21,7 @@ use settings::{LONGEST, LONGEST_APS_PLAIN};
 fn is_named(identifier: u8) -> bool
     ensures { result ≡ named identifier }
 {
-    if 3 < identifier {
-        return false;
-    }
-    identifier != 1
+    matches!(identifier, 0 | 2 | 3)
 }
 
 fn seal_under(

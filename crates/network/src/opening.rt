@@ -162,11 +162,7 @@ pub fn open_frame(
     match frames::read_frame(Layer::Network, frame, 0)? {
         Read::Plain(_) => {
             octets::paste_at(out, 0, frame);
-            Ok(Opened {
-                length: frame.len(),
-                sender: 0,
-                protection: None,
-            })
+            Ok(Opened::plain(frame.len()))
         }
         Read::Secured(secured) => {
             let x = Incoming { frame, secured };
