@@ -18,6 +18,7 @@ pub fn next_mark(board: Board) -> u32
     board.mark.saturating_add(MARK_STEP)
 }
 
+// The board that the definition of the second request names.
 fn with_mark(board: Board, mark: u32) -> Board
     ensures { result ≡ with_mark board mark }
 {

@@ -9,6 +9,7 @@ use crate::answered::{did, refuse};
 use crate::{After, Board, Link, Slot};
 use answers::Refusal;
 
+// An empty slot and an empty entry, by the names of their definitions (specs/State).
 fn no_slot() -> Slot
     ensures { result ≡ no_slot }
 {
