@@ -1,4 +1,4 @@
-// Looking: the tag alone.
+// Looking: the tag alone. The same at the network layer has another limit, table and key, and so a function of its own.
 ghost use Rattle.std.specs.Prelude.{◌≡◌};
 ghost use Rattle.settings.specs.Settings.{ours};
 ghost use Rattle.board.specs.Requests.{link_of};

@@ -44,6 +44,7 @@ fn lay_text(s: &[u8], out: &mut [u8])
     }
 }
 
+// `text` writes small letters: one function of both would be public there, and the first with a `requires`.
 #[tactic(auto, unfolding(crate::specs::Spelling::digit_in))]
 fn capital(d: u8) -> u8
     requires { d < 16 }

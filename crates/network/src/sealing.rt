@@ -1,5 +1,6 @@
 // Sealing, in document 01's order of judgement. The stages have what they read of the board, not the
-// board: each that had it would hold a copy while the cipher works.
+// board: each that had it would hold a copy while the cipher works. The APS layer has stages of its own: it finds
+// its key elsewhere, and judges other limits.
 ghost use Rattle.std.specs.Prelude.{◌≡◌, ◌≤◌, length};
 ghost use Rattle.settings.specs.Settings.{ours, longest, longest_plain};
 ghost use Rattle.answers.specs.Numbers.{told_sealed};

@@ -71,7 +71,8 @@ pub fn unseal(
     unseal_sound(key, layer, frame, secured, out)
 }
 
-// The cipher's part, which writes behind h octets of out.
+// The cipher's part, which writes behind h octets of out. That of sealing, below, has a function of its own: over a
+// closure the contract could say of these parts only what the closure promises of them.
 fn unseal_body(
     key: [u8; 16],
     nonce: [u8; 13],
