@@ -78,7 +78,7 @@ pub(crate) enum Kind {
     Up,
 }
 
-// The sixteen octets that a command may have.
+// The sixteen octets that a command may have: a column of the list, with its own word for none (specs/Table).
 #[derive(Clone, Copy)]
 pub(crate) enum Secret {
     NoSecret,
@@ -121,7 +121,7 @@ pub(crate) enum Asked {
     Inner,
 }
 
-// Where a part stands in a frame.
+// Where a part stands in a frame. Nowhere is no octets, as its definition has it (specs/Parts).
 #[derive(Clone, Copy)]
 pub struct Span {
     pub from: usize,

@@ -12,7 +12,8 @@ mod spelling;
 pub use printing::print_label;
 pub use reading::read_label;
 
-// An install code of that many octets, at the front of 16 with zeros behind it, and its link key.
+// An install code of that many octets, at the front of 16 with zeros behind it, and its link key. What the reader
+// tells is all 16, so that the length stands beside.
 #[derive(Clone, Copy, Debug, PartialEq, Eq)]
 pub struct Label {
     pub length: usize,

@@ -6,7 +6,7 @@ use std::array;
 // The octets of a field of kind F of docs/MARGINS.md, of the 512 that there is room for; its letter in a form is G.
 pub(crate) type Field = Octets<512>;
 
-// An output of octets EE, of which a line is lent the first.
+// An output of octets EE, of which a line is lent the first: all of them are shown, whatever was written.
 #[derive(Drop)]
 pub struct Output {
     octets: [u8; 256],

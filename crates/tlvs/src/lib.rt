@@ -6,7 +6,7 @@ ghost use Rattle.tlvs.specs.Filling.{value_size};
 ghost use Rattle.tlvs.specs.Looking.{wants, walked, fills, relays};
 ghost use Rattle.tlvs.specs.declared.Wanted.{Wanted};
 
-// What a walk looks for: nothing, a tag, or the TLV that Relay asks for.
+// What a walk looks for: nothing, a tag, or the TLV that Relay asks for. The definition of a walk has these three.
 #[derive(Clone, Copy)]
 pub enum Wanted {
     Nothing,
