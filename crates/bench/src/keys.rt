@@ -1,7 +1,7 @@
 // The requests that change keys, two of which are lent the lists, and the mark, moved ahead by the two
 // lines of a step. `trials` has most of them too, and each program its own of three lines: a library of
 // both would have a contract for each, and so a definition of its line.
-use crate::desk::Bench;
+use crate::desk::{Bench, lent};
 use lines::{Answer, array_of, numbers, told};
 
 impl Bench {
@@ -9,7 +9,7 @@ impl Bench {
         let [_, slot, number, ..] = numbers(line, b".BBK")?;
         let number = u8::try_from(number).ok()?;
         let board = self.board?;
-        let (addrs, floors) = self.lists.lent();
+        let (addrs, floors) = lent(&mut self.lists);
         let after = board::install(
             board,
             addrs,
@@ -42,7 +42,7 @@ impl Bench {
     pub(crate) fn forget(&mut self, line: &[u8]) -> Option<Answer> {
         let [_, slot, sender, ..] = numbers(line, b".BA")?;
         let _board = self.board?;
-        let (addrs, floors) = self.lists.lent();
+        let (addrs, floors) = lent(&mut self.lists);
         Some(told(board::forget(addrs, floors, slot as usize, sender)))
     }
 

@@ -1,5 +1,5 @@
 // Frames opened, at both layers.
-use crate::desk::{Bench, Field};
+use crate::desk::{Bench, Field, lent};
 use answers::{Opened, Refusal};
 use lines::{Answer, lent_of, numbers, refused};
 
@@ -10,7 +10,7 @@ impl Bench {
         let board = self.board?;
         let mut out = [0; 256];
         let room = lent_of(self.room, &out);
-        let (addrs, floors) = self.lists.lent();
+        let (addrs, floors) = lent(&mut self.lists);
         let found = network::open_frame(board, frame.as_slice(), addrs, floors, &mut out[..room]);
         let look = || network::look_frame(board, frame.as_slice());
         Some(told(found, &out, look))

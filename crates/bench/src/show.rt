@@ -1,7 +1,7 @@
 // What a board holds.
 use crate::desk::Bench;
 use answers::Refusal;
-use lines::{Answer, numbers, refused};
+use lines::{Answer, lent_of, numbers, refused};
 
 impl Bench {
     pub(crate) fn state(&self, line: &[u8]) -> Option<Answer> {
@@ -31,13 +31,16 @@ impl Bench {
     // The used rows of a slot, 0 or 1, by their numbers in the list; address 0 is a free row. Document
     // 02 (iii): "the first half belongs to slot 0". Lists that network opening would refuse have no
     // halves to show.
-    pub(crate) fn heard(&mut self, line: &[u8]) -> Option<Answer> {
+    pub(crate) fn heard(&self, line: &[u8]) -> Option<Answer> {
         let [_, slot, ..] = numbers(line, b".B")?;
         let _board = self.board?;
         if slot > 1 {
             return None;
         }
-        let (addrs, floors) = self.lists.lent();
+        let rows = lent_of(self.lists.rows, &self.lists.addrs);
+        let tops = lent_of(self.lists.tops, &self.lists.floors);
+        let addrs = &self.lists.addrs[..rows];
+        let floors = &self.lists.floors[..tops];
         if !board::lists_fit(addrs, floors) {
             return Some(refused(Refusal::Room));
         }

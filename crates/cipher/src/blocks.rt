@@ -1,4 +1,4 @@
-// Octet strings, a block of 16 at a time: whole ones by a copy of fixed length, the last one padded
+// Octet strings, a block of 16 at a time: whole ones are read by a copy of fixed length, the last one is padded
 // with zeros.
 ghost use Rattle.std.specs.Prelude.{◌≡◌, ◌+◌, ◌≤◌, length};
 ghost use Rattle.std.proofs.Math.Seq.{paste};

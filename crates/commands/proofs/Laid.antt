@@ -1,6 +1,6 @@
 -- Laws of laying octets one behind another, and of the frame that the writer lays.
 -- Assumes nothing.
-use Rattle.std.proofs.Common.{◌≡◌, ℕ, ◌+◌, ◌-◌, ◌<◌, ◌≤◌, Bool, true, eqb, List, [], ◌∷◌, ◌++◌, length, drop, sym, refl, ap, ◌∙◌, ap₂, arith, length-append, length-drop, drop-drop, take_at, le-ltb, lt-ltb, eqb-true}
+use Rattle.std.proofs.Common.{◌≡◌, ℕ, ◌+◌, ◌-◌, ◌<◌, ◌≤◌, Bool, true, false, eqb, List, [], ◌∷◌, ◌++◌, length, drop, sym, refl, ap, ◌∙◌, ap₂, arith, length-append, length-drop, drop-drop, take_at, le-ltb, lt-ltb, eqb-true}
 use lib.Seq.{take-length, drop-append-add}
 use Rattle.octets.proofs.Choices.{both-parts}
 use Rattle.octets.proofs.Pasted.{pasted-fits, pasted-onto}
@@ -94,6 +94,10 @@ module _ (z : Settings) (b : Board) (ack : Bool) (c : Command) (k r o : List ℕ
     lent-secret w = whole-secret z (rule_of (kind_of c)) k r (ruled true (sym w))
 
     module _ (h : longest_aps ≤ length o) where
+      pub refuses-parts : whole z u k r ≡ false → framed (turned_down 11) b o ≡ write_command z b ack c k r o
+      unfolding write_command
+      refuses-parts w = simp (le-ltb _ _ h, ruled false (sym w))
+
       pub refuses-long : whole z u k r ≡ true → longest_aps - 2 - u.size < length r
           → framed (turned_down 2) b o ≡ write_command z b ack c k r o
       unfolding write_command

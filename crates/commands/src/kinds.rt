@@ -9,11 +9,12 @@ fn transport_of(sort: u8) -> Option<Kind>
     ensures { result ≡ transport_of sort }
 {
     match sort {
+        0 => None,
         1 => Some(Kind::Transport1),
         2 => Some(Kind::Transport2),
         3 => Some(Kind::Transport3),
         4 => Some(Kind::Transport4),
-        _ => None,
+        5..=255 => None,
     }
 }
 
@@ -22,9 +23,11 @@ fn request_of(sort: u8) -> Option<Kind>
     ensures { result ≡ request_of sort }
 {
     match sort {
+        0..=1 => None,
         2 => Some(Kind::Request2),
+        3 => None,
         4 => Some(Kind::Request4),
-        _ => None,
+        5..=255 => None,
     }
 }
 
@@ -34,17 +37,19 @@ pub(crate) fn find_kind(id: u8, sort: u8) -> Option<Kind>
     ensures { result ≡ listed id sort }
 {
     match id {
+        0x00..=0x04 => None,
         0x05 => transport_of(sort),
         0x06 => Some(Kind::Update),
         0x07 => Some(Kind::Remove),
         0x08 => request_of(sort),
         0x09 => Some(Kind::Switch),
+        0x0a..=0x0d => None,
         0x0e => Some(Kind::Tunnel),
         0x0f => Some(Kind::Verify),
         0x10 => Some(Kind::Confirm),
         0x11 => Some(Kind::Down),
         0x12 => Some(Kind::Up),
-        _ => None,
+        0x13..=0xff => None,
     }
 }
 

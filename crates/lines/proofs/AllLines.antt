@@ -14,16 +14,16 @@ use Rattle.lines.specs.Passing.{stands, at_start, number_after, begun, empty, sp
 use Rattle.lines.specs.Passing.{Numbered, numbered, handing, read, later, turns, given, all, counted_from}
 
 -- octet by octet: the lines of h and then l, the last one too
-unfoldable reads : ℕ → Held → List ℕ → List Held
+unfoldable pub reads : ℕ → Held → List ℕ → List Held
 reads n h [] = h ∷ []
 reads n h (c ∷ l) = if eqb c 10 then h ∷ reads n unread l else reads n (fed n h c) l
 
 -- what a stop leads to, where g is behind the chunk
-unfoldable onward : ℕ → List ℕ → Reached → List Held
+unfoldable pub onward : ℕ → List ℕ → Reached → List Held
 onward n g r = if r.ended then r.line ∷ reads n unread (r.left ++ g) else reads n r.line g
 
 -- reading to a line's end is taking its octets
-reads_on : (n : ℕ) (h : Held) (l g : List ℕ) → reads n h (l ++ g) ≡ onward n g (read_on n h l)
+pub reads_on : (n : ℕ) (h : Held) (l g : List ℕ) → reads n h (l ++ g) ≡ onward n g (read_on n h l)
 unfolding reads onward read_on
 reads_on n h [] g = refl
 reads_on n h (c ∷ l) g = go (reads_on n (fed n h c) l g) (eqb c 10)
@@ -35,7 +35,7 @@ reads_on n h (c ∷ l) g = go (reads_on n (fed n h c) l g) (eqb c 10)
     go ih false = ih
 
 -- a line that ended leaves less of the chunk, one that did not leaves nothing of it
-left_less : (n : ℕ) (h : Held) (l : List ℕ) → (read_on n h l).ended ≡ true → length (read_on n h l).left < length l
+pub left_less : (n : ℕ) (h : Held) (l : List ℕ) → (read_on n h l).ended ≡ true → length (read_on n h l).left < length l
 unfolding read_on
 left_less n h [] e = absurd (false≢true e)
 left_less n h (c ∷ l) e = go (left_less n (fed n h c) l) (eqb c 10) e
@@ -46,7 +46,7 @@ left_less n h (c ∷ l) e = go (left_less n (fed n h c) l) (eqb c 10) e
     go ih true q = omega arith
     go ih false q = omega (arith, ih q)
 
-left-none : (n : ℕ) (h : Held) (l : List ℕ) → (read_on n h l).ended ≡ false → (read_on n h l).left ≡ []
+pub left-none : (n : ℕ) (h : Held) (l : List ℕ) → (read_on n h l).ended ≡ false → (read_on n h l).left ≡ []
 unfolding read_on
 left-none n h [] e = refl
 left-none n h (c ∷ l) e = go (left-none n (fed n h c) l) (eqb c 10) e
@@ -99,7 +99,7 @@ by-turns (suc k) n h (c ∷ l) m ls q =
     go line true left f g on = ap (λ (e : List Numbered). numbered m line ∷ e) (begins k n line left m ls ∙ f refl)
     go line false left f g on = ap (λ (x : List ℕ). turns k n (stands (reached line false x) m true) ls) (g refl) ∙ on
 
-none_kept : (n : ℕ) → unread ≡ kept n []
+pub none_kept : (n : ℕ) → unread ≡ kept n []
 unfolding kept
 none_kept n = rw (take-nil {A = ℕ} n, le-ltb n 0 (omega arith))
 
@@ -123,7 +123,7 @@ more-kept n p c = go (ltb (length p) n) refl
         let b : take n (p ++ (c ∷ [])) ≡ take n p = take-append-le n p (c ∷ []) h in
         rw (a, b, le-ltb n n (omega arith), lt-ltb n (length (p ++ (c ∷ []))) (omega (arith, long)))
 
-by-octets : (n : ℕ) (p l : List ℕ) → reads n (kept n p) l ≡ map (kept n) (all (lines_from p l))
+pub by-octets : (n : ℕ) (p l : List ℕ) → reads n (kept n p) l ≡ map (kept n) (all (lines_from p l))
 unfolding reads lines_from
 by-octets n p [] = refl
 by-octets n p (c ∷ l) = go (by-octets n [] l) (by-octets n (p ++ (c ∷ [])) l) (eqb c 10)

@@ -6,3 +6,4 @@ pub mod Turned
 pub mod Refusing
 pub mod Spelt
 pub mod Lending
+pub mod Talking

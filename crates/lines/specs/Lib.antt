@@ -5,3 +5,4 @@ pub mod Answer
 pub mod Kinds
 pub mod Forms
 pub mod Refusals
+pub mod Running

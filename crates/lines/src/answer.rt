@@ -24,7 +24,9 @@ impl Answer {
     pub fn first(word: &[u8]) -> Self
         ensures { said result ≡ more room [] word.now }
     {
-        Octets::new().with(word)
+        let mut answer = Octets::new();
+        answer.push(word);
+        answer
     }
 
     // The answer to a request that was done: what it has to tell comes behind.

@@ -36,25 +36,4 @@ impl<const N: usize> Lists<N> {
             tops,
         }
     }
-
-    // The rows that are lent, and no more than there are. No clause says what becomes of the lists behind
-    // the two: that is what the borrower writes there.
-    pub fn lent(&mut self) -> (&mut [u64], &mut [u32])
-        ensures addrs { result.0.now ≡ take self.old.rows self.old.addrs }
-        ensures floors { result.1.now ≡ take self.old.tops self.old.floors }
-    {
-        let rows = self.rows;
-        let tops = self.tops;
-        (
-            front_of(&mut self.addrs, rows),
-            front_of(&mut self.floors, tops),
-        )
-    }
-}
-
-// The first n elements of the list, or all of it where it has fewer.
-fn front_of<T, const N: usize>(list: &mut [T; N], n: usize) -> &mut [T]
-    ensures { result.now ≡ take n list.old }
-{
-    &mut list[..n.min(N)]
 }

@@ -1,8 +1,8 @@
 // Lines in and lines out: the line that is being read, its fields by their kinds, what it lends, the answer
 // that is being written, and the loop of a program that answers line by line.
 //
-// No function here asks anything of its caller. Each but `run` says by an equation what it answers: no contract
-// says what reading the input and writing the output do.
+// No function here asks anything of its caller. Each but `run` says by an equation what it answers. `run` says what it
+// writes and what it makes of its desk, where its reader says what octets it has; a `Desk` says what it may answer.
 #![tactic(auto)]
 
 mod answer;

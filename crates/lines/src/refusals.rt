@@ -8,7 +8,7 @@ use answers::Refusal;
 
 // `refused`, the refusal's number and its word. The words stand in the order of the numbers, which
 // start at 1.
-#[tactic(auto, using(crate::proofs::Refusing::refused_so))]
+#[tactic(auto, using(crate::proofs::Refusing::refused_so), unfolding(crate::specs::Answer::field))]
 pub fn refused(why: Refusal) -> Answer
     ensures { said result ≡ refusal why }
 {
@@ -17,7 +17,13 @@ pub fn refused(why: Refusal) -> Answer
         b"\troom\tlong\tshort\tform\tsecurity\tnokey\ttop\tstale\tforged\tfull\tcommand\tprotection\tabsent\targument\tlabel\tcrc\tmark",
         usize::from(n),
     );
-    Answer::first(b"refused").decimal(u64::from(n)).word(word)
+    // In place: each field that is added by value copies the whole answer.
+    let mut answer = Answer::first(b"refused");
+    answer.push(b"\t");
+    answer.push_decimal(u64::from(n));
+    answer.push(b"\t");
+    answer.push(word);
+    answer
 }
 
 // What comes of a request that tells nothing but that it was done, or why it was refused.

@@ -1,4 +1,10 @@
 // A program that talks in lines: it reads its input line by line and answers each by one line.
+ghost use Rattle.std.specs.Prelude.{ℕ, ◌^◌, ◌<◌, List, [], length, Option, IfOk, OnOk, IfSome, option_map, ⊤};
+ghost use Rattle.std.specs.Io.KnownBytes.{Appends, IsAtEnd};
+ghost use Rattle.lines.specs.Answer.{bad, said, whole_line};
+ghost use Rattle.lines.specs.Passing.{handing, standing};
+ghost use Rattle.lines.specs.Running.{Told, Passes, lines_in, or_bad};
+
 use crate::answer::Answer;
 use crate::reader::Reader;
 use crate::reading::is_silent;
@@ -7,8 +13,13 @@ use std::io::{Read, Write};
 
 // What answers the lines, and what stays from one to the next.
 pub trait Desk {
+    // From the first state a line may be answered by these octets, or by none, and the second state is left. By itself
+    // nothing is said of it.
+    ghost answers: { Self → List ℕ → Option (List ℕ) → Self → Type 0 } = { λ _ _ _ _. ⊤ };
+
     // The answer to a line; none where it is no request.
-    fn answer(&mut self, line: &[u8]) -> Option<Answer>;
+    fn answer(&mut self, line: &[u8]) -> Option<Answer>
+        ensures { answers self.old line.now (option_map said result) self.new };
 }
 
 // Answers each line as soon as it has ended, so that it stays in step with a writer that waits for each answer.
@@ -18,7 +29,12 @@ pub fn run<R: Read, W: Write, D: Desk>(
     input: &mut R,
     output: &mut W,
     desk: &mut D,
-) -> io::Result<()> {
+) -> io::Result<()>
+    ensures told { OnOk result (IfSome (R.remaining input.old) (λ l. length l < 2 ^ 63
+        → Told D.answers (lines_in 2048 l) desk.old (W.contents output.old) desk.new (W.contents output.new))) }
+    ensures end { OnOk result (IfSome (R.remaining input.old) (λ l. length l < 2 ^ 63
+        → IsAtEnd (R.remaining input.new))) }
+{
     let mut chunk = [0u8; 4096];
     let mut line = [0u8; 2048];
     let mut reader = Reader::new();
@@ -38,7 +54,11 @@ fn read_on<R: Read>(
     reader: Reader,
     chunk: &mut [u8],
     line: &mut [u8],
-) -> io::Result<Reader> {
+) -> io::Result<Reader>
+    ensures { IfOk result (λ r. 0 < length chunk.old
+        → Passes (length line.old) (standing reader chunk.old line.old) (R.remaining input.old)
+        (standing r chunk.new line.new) (R.remaining input.new)) }
+{
     if !reader.is_spent(chunk) {
         return Ok(reader.turn(chunk, line));
     }
@@ -47,19 +67,51 @@ fn read_on<R: Read>(
 }
 
 // Answers a line that has ended, by its line feed or with the input. An empty line has no answer, nor has the
-// nothing behind the last line feed. `bad` is a line that is no request, and one that there is no room for.
+// nothing behind the last line feed. `bad` is a line that is no request, and one that there is no room for. What
+// tells an answer stands in functions of its own, since room for one is cleared where a function begins that has it:
+// here it would be cleared for a line without an answer too, and at each turn that ends no line.
 fn answer_line<W: Write, D: Desk>(
     output: &mut W,
     reader: Reader,
     line: &[u8],
     desk: &mut D,
-) -> io::Result<()> {
+) -> io::Result<()>
+    ensures { OnOk result ((l : List ℕ)
+        → Told D.answers (handing (standing reader l line.now) []) desk.old (W.contents output.old)
+        desk.new (W.contents output.new)) }
+{
     let read = reader.stop.line;
     let there = text::front(line, read.at);
     if !reader.is_due() || is_silent(there) {
         return Ok(());
     }
-    let answer = if read.long { None } else { desk.answer(there) };
-    let told = answer.unwrap_or_else(|| Answer::bad());
-    output.write_all(told.whole_line(reader.number).as_slice())
+    if read.long {
+        return tell_bad(output, reader.number);
+    }
+    ask(output, reader.number, there, desk)
+}
+
+// What the desk answers to a line, told.
+fn ask<W: Write, D: Desk>(output: &mut W, number: u64, line: &[u8], desk: &mut D) -> io::Result<()>
+    ensures { OnOk result ((a : Option (List ℕ)) × (D.answers desk.old line.now a desk.new
+        × Appends (W.contents output.old) (W.contents output.new) (whole_line number (or_bad a)))) }
+{
+    match desk.answer(line) {
+        Some(answer) => tell(output, number, &answer),
+        None => tell_bad(output, number),
+    }
+}
+
+fn tell_bad<W: Write>(output: &mut W, number: u64) -> io::Result<()>
+    ensures { OnOk result (Appends (W.contents output.old) (W.contents output.new) (whole_line number bad)) }
+{
+    tell(output, number, &Answer::bad())
+}
+
+// Writes an answer behind its line's number.
+fn tell<W: Write>(output: &mut W, number: u64, answer: &Answer) -> io::Result<()>
+    ensures { OnOk result (Appends (W.contents output.old) (W.contents output.new)
+        (whole_line number (said answer.now))) }
+{
+    output.write_all(answer.whole_line(number).as_slice())
 }

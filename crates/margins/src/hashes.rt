@@ -1,5 +1,5 @@
-// The hash and the keyed hash, with the octets that a refusal answers. What it tells is each program's own, and
-// `lines` knows no cipher.
+// The hash and the keyed hash, with zeros for them where they are refused: a refusal hands no octets out. What it
+// tells is each program's own, and `lines` knows no cipher.
 use crate::lent::{Field, key_from};
 use answers::Refusal;
 use cipher::Fault;

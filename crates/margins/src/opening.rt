@@ -1,7 +1,7 @@
 // Frames opened, at both layers, and what that leaves.
 use crate::answer::opened;
 use crate::lent::{Field, Output, made_board, made_lists};
-use lines::{Answer, Lists, numbers};
+use lines::{Answer, Lists, lent_of, numbers};
 
 pub(crate) fn open(line: &[u8]) -> Option<Answer> {
     let [_, room, ..] = numbers(line, b".SG")?;
@@ -26,8 +26,15 @@ fn open_in(room: u64, rows: usize, tops: usize, frame: &[u8]) -> Option<Answer> 
     let mut out = Output::new(room)?;
     let made = made_lists(rows, tops);
     let mut lists = made;
-    let (addrs, floors) = lists.lent();
-    let found = network::open_frame(made_board(), frame, addrs, floors, out.lent());
+    let rows = lent_of(lists.rows, &lists.addrs);
+    let tops = lent_of(lists.tops, &lists.floors);
+    let found = network::open_frame(
+        made_board(),
+        frame,
+        &mut lists.addrs[..rows],
+        &mut lists.floors[..tops],
+        out.lent(),
+    );
     let a = opened(found).hex(out.as_slice());
     Some(changed_rows(a, &made, &lists))
 }

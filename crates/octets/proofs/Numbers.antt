@@ -1,24 +1,45 @@
 -- Numbers in octets, least octet first: how they are put together, how large they are, and that spelling loses nothing.
 -- Assumes nothing.
-use mathlib.Core.Path.{◌≡◌, refl, sym, ap, ◌∙◌}
+use mathlib.Core.Path.{◌≡◌, refl, sym, ap, ap₂, ◌∙◌}
 use mathlib.Core.List.{List, [], ◌∷◌, ◌++◌}
-use Prim.Native.Nat.{ℕ, zero, suc, ◌+◌, ◌*◌, ◌^◌, ◌/◌, ◌%◌, ◌<◌}
-use native.Mathlib.Nat.{add-zero, add_assoc, pow-succ'}
+use Prim.Native.Nat.{ℕ, zero, suc, ◌+◌, ◌*◌, ◌^◌, ◌/◌, ◌%◌, ◌≤◌, ◌<◌}
+use native.Mathlib.Nat.{add-zero, add_assoc, mul_assoc, pow-succ'}
 use native.Mathlib.Omega.{arith}
-use lib.ListN.{length, get_or-append}
+use lib.ListN.{length, get_or-eq_default, get_or-append}
 use lib.Seq.{get_or-append-add}
 use Rattle.octets.proofs.AllOctets.{nil-octets, cons-octets, tail-octets, tab-octets}
-use Rattle.octets.proofs.Tabs.{length-tab, tab-ext, tab-at}
+use Rattle.octets.proofs.Tabs.{length-tab, tab-add, tab-ext, tab-at}
 use Rattle.octets.specs.Least.{least_first, number_at, spelled}
 use Rattle.octets.specs.Lists.{at, tab, Octets}
 
 -- ---- put together
 
+pub least-append : (s t : List ℕ) → least_first (s ++ t) ≡ least_first s + 256 ^ length s * least_first t
+least-append [] t = omega arith
+least-append (x ∷ s) t =
+    rw (least-append s t, pow-succ' 256 (length s), mul_assoc 256 (256 ^ length s) (least_first t)) (omega arith)
+
+pub number-add : (j k : ℕ) (s : List ℕ) (i : ℕ) → number_at (j + k) s i ≡ number_at j s i + 256 ^ j * number_at k s (i + j)
+unfolding number_at
+number-add j k s i =
+    ap least_first (tab-add j k (λ n. at s (i + n)))
+    ∙ least-append (tab j (λ n. at s (i + n))) (tab k (λ n. at s (i + (j + n))))
+    ∙ ap₂ (λ (n : ℕ) (l : List ℕ). least_first (tab j (λ m. at s (i + m))) + 256 ^ n * least_first l) (length-tab j (λ n. at s (i + n)))
+    (tab-ext k (λ n. at s (i + (j + n))) (λ n. at s (i + j + n)) (λ n h. ap (at s) (sym (add_assoc i j n))))
+
 pub number-two : (s : List ℕ) (i : ℕ) → number_at 2 s i ≡ at s i + 256 * at s (i + 1)
 unfolding number_at
 number-two s i = rw (add-zero i) (omega arith)
 
--- ---- how large
+-- ---- past the end, and how large
+
+pub number-out : (k : ℕ) (s : List ℕ) (i : ℕ) → length s ≤ i → number_at k s i ≡ 0
+unfolding number_at
+number-out k s i h = ap least_first (tab-ext k (λ n. at s (i + n)) (λ _. 0) (λ n _. get_or-eq_default s 0 (omega arith))) ∙ zeros k
+  where
+    zeros : (k : ℕ) → least_first (tab k (λ _. 0)) ≡ 0
+    zeros zero = refl
+    zeros (suc k) = rw (zeros k) refl
 
 pub least_lt : (s : List ℕ) → Octets s → least_first s < 256 ^ length s
 least_lt [] o = omega arith

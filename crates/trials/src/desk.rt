@@ -26,3 +26,19 @@ impl Trials {
         told(after.answer)
     }
 }
+
+// The rows of the two lists that are lent, and no more than there are. Each program that lends stored lists has this
+// for itself: in a library it would say what it leaves, and the kit proves no such clause of two fields that go out at
+// once.
+pub(crate) fn lent(lists: &mut Lists<1026>) -> (&mut [u64], &mut [u32]) {
+    let rows = lists.rows;
+    let tops = lists.tops;
+    (
+        front_of(&mut lists.addrs, rows),
+        front_of(&mut lists.floors, tops),
+    )
+}
+
+fn front_of<T>(list: &mut [T; 1026], n: usize) -> &mut [T] {
+    &mut list[..n.min(1026)]
+}

@@ -1,5 +1,5 @@
 // Requests that are lent the lists, and how much of them is lent. Those of `bench` are its own, as in `keys`.
-use crate::desk::Trials;
+use crate::desk::{Trials, lent};
 use lines::{Answer, Lists, array_of, numbers, told};
 
 impl Trials {
@@ -29,7 +29,7 @@ impl Trials {
         let [_, slot, number, ..] = numbers(line, b".BBK")?;
         let number = u8::try_from(number).ok()?;
         let board = self.board?;
-        let (addrs, floors) = self.lists.lent();
+        let (addrs, floors) = lent(&mut self.lists);
         let after = board::install(
             board,
             addrs,
@@ -44,7 +44,7 @@ impl Trials {
     pub(crate) fn forget(&mut self, line: &[u8]) -> Option<Answer> {
         let [_, slot, sender, ..] = numbers(line, b".BA")?;
         let _board = self.board?;
-        let (addrs, floors) = self.lists.lent();
+        let (addrs, floors) = lent(&mut self.lists);
         Some(told(board::forget(addrs, floors, slot as usize, sender)))
     }
 }
