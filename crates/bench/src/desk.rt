@@ -1,7 +1,7 @@
 // What stays from line to line.
 use answers::Refusal;
 use board::{After, Board};
-use lines::{Answer, Lists, Octets, refused};
+use lines::{Answer, Lists, Octets, lent_of, refused};
 
 // The octets of a field of kind F: 256 of them at most.
 pub(crate) type Field = Octets<256>;
@@ -44,7 +44,8 @@ pub(crate) fn lent(lists: &mut Lists<1024>) -> (&mut [u64], &mut [u32]) {
 }
 
 fn front_of<T>(list: &mut [T; 1024], n: usize) -> &mut [T] {
-    &mut list[..n.min(1024)]
+    let lent = lent_of(n, list);
+    &mut list[..lent]
 }
 
 // The octets that were made, at the start of the output.

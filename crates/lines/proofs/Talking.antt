@@ -10,7 +10,8 @@ use Rattle.lines.specs.Reading.{Held, unread, Reached, reached, read_on}
 use Rattle.lines.specs.Answer.{bad, whole_line}
 use Rattle.lines.specs.Lines.{silent, lines_of}
 use Rattle.lines.specs.Passing.{Standing, stands, at_start, begun, empty, spent, turned, filled, due, Numbered, numbered, handing, counted_from, number_after}
-use Rattle.lines.specs.Running.{Answering, Answered, Talk, Told, or_bad, Passes, lines_in}
+use Rattle.lines.specs.Running.{Answering, Answered, Talk, Told, or_bad, lines_in}
+use Rattle.lines.specs.Code.{Passes}
 use Rattle.lines.proofs.AllLines.{reads, onward, reads_on, left_less, left-none, none_kept, by-octets}
 
 -- the lines that are still to be handed on, where l is what the input still has

@@ -6,3 +6,4 @@ pub mod Kinds
 pub mod Forms
 pub mod Refusals
 pub mod Running
+pub mod Code

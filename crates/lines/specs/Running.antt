@@ -3,11 +3,11 @@
 -- starts with `#`, is counted and gets no answer."
 -- Assumes nothing.
 use Rattle.std.specs.Prelude.{◌≡◌, ℕ, List, [], ◌∷◌, ◌++◌, map, Option, Some, None, MatchBool}
-use Rattle.std.specs.Io.KnownBytes.{Appends, Consumes, IsAtEnd}
+use Rattle.std.specs.Io.KnownBytes.{Appends}
 use Rattle.lines.specs.Answer.{bad, whole_line}
 use Rattle.lines.specs.Lines.{silent, lines_of}
 use Rattle.lines.specs.Reading.{kept}
-use Rattle.lines.specs.Passing.{Standing, spent, turned, filled, Numbered, all, counted_from}
+use Rattle.lines.specs.Passing.{Numbered, all, counted_from}
 
 -- what a desk of type D may answer to a line, in one state, and the state that is left
 abbrev pub Answering : Type 0 → Type 1
@@ -39,10 +39,3 @@ Told A xs d c e k = (o : List ℕ) × Talk A xs d o e × Appends c k o
 -- the lines of an input, counted from 1, each as far as there is room for n octets of it
 abbrev pub lines_in : ℕ → List ℕ → List Numbered
 lines_in n l = counted_from 1 (map (kept n) (all (lines_of l)))
-
--- a turn of a reader at s, in a room of n octets: where the chunk is spent some octets of the input are the next chunk, none
--- only at its end; else the reader goes on in the chunk
-abbrev pub Passes : ℕ → Standing → Option (List ℕ) → Standing → Option (List ℕ) → Type 0
-Passes n s r t k =
-    MatchBool (spent s) ((l : List ℕ) × Consumes r k l × (l ≡ [] → IsAtEnd k) × (t ≡ filled s l))
-    ((k ≡ r) × (t ≡ turned n s))

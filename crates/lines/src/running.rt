@@ -3,7 +3,8 @@ ghost use Rattle.std.specs.Prelude.{ℕ, ◌^◌, ◌<◌, List, [], length, Opt
 ghost use Rattle.std.specs.Io.KnownBytes.{Appends, IsAtEnd};
 ghost use Rattle.lines.specs.Answer.{bad, said, whole_line};
 ghost use Rattle.lines.specs.Passing.{handing, standing};
-ghost use Rattle.lines.specs.Running.{Told, Passes, lines_in, or_bad};
+ghost use Rattle.lines.specs.Running.{Told, lines_in, or_bad};
+ghost use Rattle.lines.specs.Code.{Passes};
 
 use crate::answer::Answer;
 use crate::reader::Reader;

@@ -1,6 +1,6 @@
 // What stays from line to line.
 use board::{After, Board};
-use lines::{Answer, Lists, Octets, told};
+use lines::{Answer, Lists, Octets, lent_of, told};
 
 // The octets of a field of kind F: 256 of them at most.
 pub(crate) type Field = Octets<256>;
@@ -40,5 +40,6 @@ pub(crate) fn lent(lists: &mut Lists<1026>) -> (&mut [u64], &mut [u32]) {
 }
 
 fn front_of<T>(list: &mut [T; 1026], n: usize) -> &mut [T] {
-    &mut list[..n.min(1026)]
+    let lent = lent_of(n, list);
+    &mut list[..lent]
 }
