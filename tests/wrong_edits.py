@@ -92,7 +92,8 @@ def functions_of(crate):
     A method is named as in `Reader::turn`, that of a trait as in `ReaderDisplay::fmt` or `U8FromRefusal::from`."""
     found = []
     for path in sorted((ROOT / "crates" / crate / "src").rglob("*.rt")):
-        text = path.read_text(encoding="utf-8")
+        # A file's tests stand behind its functions.
+        text = path.read_text(encoding="utf-8").partition("#[cfg(test)]\n")[0]
         file = path.relative_to(ROOT / "crates" / crate).as_posix()
         owner = ""
         for start in HEAD.finditer(text):

@@ -28,8 +28,7 @@ impl Trials {
 }
 
 // The rows of the two lists that are lent, and no more than there are. Each program that lends stored lists has this
-// for itself: in a library it would say what it leaves, and the kit proves no such clause of two fields that go out at
-// once.
+// for itself: `Lists::lent` of the library leaves open what stands behind the rows, and the programs don't rest on it.
 pub(crate) fn lent(lists: &mut Lists<1026>) -> (&mut [u64], &mut [u32]) {
     let rows = lists.rows;
     let tops = lists.tops;
